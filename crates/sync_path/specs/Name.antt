@@ -1,0 +1,28 @@
+-- Which bytes make a name, the component of a path.
+use Rattle.std.specs.Prelude.{ℕ, Bool, not, ◌&&◌, ◌||◌, ◌==◌, List, [], ◌∷◌, length, nat_le, bytes_eq, IsTrue}
+use Rattle.std.specs.List.{list_all}
+
+-- the greatest length of a name, in bytes
+abbrev pub max_name_len : ℕ
+max_name_len = 255
+
+-- as many bytes as a name may have
+abbrev pub has_name_len : List ℕ → Bool
+has_name_len bs = nat_le 1 (length bs) && nat_le (length bs) max_name_len
+
+-- a byte that may stand in a name: no control byte below 0x20, and no `/` (47)
+abbrev pub is_name_byte : ℕ → Bool
+is_name_byte b = nat_le 32 b && not (b == 47)
+
+-- `.` and `..` (46 is the dot), which stand for the folder itself and for the folder above
+abbrev pub is_dots : List ℕ → Bool
+is_dots bs = bytes_eq bs (46 ∷ []) || bytes_eq bs (46 ∷ 46 ∷ [])
+
+-- bytes that make a name: 1 to 255 of them, each one that may stand in a name, and neither `.` nor `..`.
+-- (That a name is UTF-8 comes from the `&str` that it is read from.)
+abbrev pub is_name : List ℕ → Bool
+is_name bs = has_name_len bs && not (is_dots bs) && list_all is_name_byte bs
+
+-- these bytes make a name
+abbrev pub IsName : List ℕ → Type 0
+IsName bs = IsTrue (is_name bs)
