@@ -10,3 +10,6 @@ mod path_error;
 
 pub use name::Name;
 pub use path_error::{BadPath, PathError};
+
+#[cfg(test)]
+mod tests;

@@ -1,0 +1,96 @@
+ghost use Rattle.std.specs.Prelude.{◌≡◌};
+ghost use Rattle.std.specs.BTreeMap.{get};
+ghost use Rattle.std.specs.Cmp.Lexicographic.{slice_cmp};
+ghost use Rattle.std.specs.Ordering.{nat_cmp};
+
+use crate::{BadPath, Name, PathError};
+use std::alloc::{AllocError, Global};
+use std::collections::BTreeMap;
+use std::test::Fail;
+
+// A map's contract at a name: the value at the name's bytes, in the order of bytes.
+fn count_at(counts: &BTreeMap<Name, u8>, name: &Name) -> Option<u8>
+    ensures { result ≡ get (slice_cmp nat_cmp) counts.now name.now }
+{
+    counts.get(name).copied()
+}
+
+fn repeated(alloc: Global, piece: &str, times: usize) -> Result<String, AllocError> {
+    let mut text = String::new(alloc);
+    for _ in 0..times {
+        text.push_str(piece)?;
+    }
+    Ok(text)
+}
+
+#[test]
+fn texts_that_are_names_and_texts_that_are_not(rt: HostRuntime) -> Result<(), Fail> {
+    let alloc = rt.alloc();
+    let cases = [
+        ("", false),
+        (".", false),
+        ("..", false),
+        ("...", true),
+        (".a", true),
+        ("a", true),
+        ("a/b", false),
+        ("/", false),
+        ("a\u{1f}b", false),
+        ("\u{0}", false),
+        (" ", true),
+        ("a\u{7f}", true),
+        ("ünïcödé", true),
+        ("名前", true),
+    ];
+    for (text, good) in cases {
+        match Name::read(alloc, text) {
+            Ok(name) => {
+                assert!(rt; good, "{text:?}");
+                assert_eq!(rt; name.as_str(), text);
+            }
+            Err(error) => {
+                assert!(rt; !good, "{text:?}");
+                assert_eq!(rt; error, PathError::Bad(BadPath { place: 0 }));
+            }
+        }
+    }
+    Ok(())
+}
+
+#[test]
+fn a_name_has_at_most_255_bytes(rt: HostRuntime) -> Result<(), Fail> {
+    let alloc = rt.alloc();
+    let cases = [
+        ("a", 255, true),
+        ("a", 256, false),
+        ("é", 127, true),
+        ("é", 128, false),
+    ];
+    for (piece, times, good) in cases {
+        let text = repeated(alloc, piece, times)?;
+        assert_eq!(rt;
+            Name::read(alloc, text.as_str()).is_ok(),
+            good,
+            "{times} times {piece}"
+        );
+    }
+    Ok(())
+}
+
+#[test]
+fn a_map_has_its_names_in_the_order_of_bytes(rt: HostRuntime) -> Result<(), Fail> {
+    let alloc = rt.alloc();
+    let mut counts: BTreeMap<Name, u8> = BTreeMap::new(alloc);
+    for (text, count) in [("b", 1), ("é", 2), ("a", 3), ("ab", 4), ("B", 5), ("a", 6)] {
+        let _ = counts.insert(Name::read(alloc, text)?, count)?;
+    }
+    let mut order = String::new(alloc);
+    for (name, count) in &counts {
+        order.push_str(name.as_str())?;
+        assert_eq!(rt; count_at(&counts, &name.copy(alloc)?), Some(*count));
+    }
+    assert_eq!(rt; order.as_str(), "Baabbé");
+    assert_eq!(rt; count_at(&counts, &Name::read(alloc, "a")?), Some(6));
+    assert_eq!(rt; count_at(&counts, &Name::read(alloc, "c")?), None);
+    Ok(())
+}
