@@ -1,0 +1,4 @@
+pub mod Atom
+pub mod Digest
+pub mod ProblemKind
+pub mod Text

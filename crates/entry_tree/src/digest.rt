@@ -1,0 +1,62 @@
+// The digest of a file's content.
+ghost use Rattle.std.specs.Prelude.{◌≡◌, ◌==◌, ℕ, List};
+ghost use Rattle.entry_tree.specs.Digest.{IsDigest};
+ghost use Rattle.sha2.specs.Sha256.{sha256};
+
+use sha2::Sha256;
+use std::marker::Model;
+
+/// A SHA-256 digest (FIPS 180-4), which names a file's content. Contracts see its 32 bytes.
+#[derive(Clone, Copy, Debug)]
+pub struct Digest {
+    bytes: [u8; 32],
+}
+
+impl Model for Digest {
+    ghost use Rattle.std.specs.Prelude.{ℕ, List};
+
+    ghost Value = { List ℕ };
+
+    ghost view = { λ d. d.bytes };
+
+    ghost inverse = { λ bytes. record { bytes = bytes } };
+}
+
+impl Digest {
+    /// The digest of these bytes. Cost: their number.
+    pub fn of(bytes: &[u8]) -> Digest
+        ensures { result ≡ sha256 bytes.now }
+    {
+        Digest {
+            bytes: <Sha256 as sha2::Digest>::digest(bytes),
+        }
+    }
+
+    /// The 32 bytes of the digest.
+    pub fn as_bytes(&self) -> &[u8; 32]
+        ensures value { result.now ≡ self.now }
+        ensures digest { IsDigest self.now }
+    {
+        &self.bytes
+    }
+}
+
+impl PartialEq for Digest {
+    ghost use Rattle.std.specs.Cmp.{partial_equiv_from_equiv};
+    ghost use Rattle.std.specs.Cmp.Lexicographic.{nat_list_eq_equiv};
+    ghost use lib.Pointwise.{pointwise};
+
+    ghost eq = { pointwise ◌==◌ };
+
+    ghost laws = { partial_equiv_from_equiv nat_list_eq_equiv };
+
+    fn eq(&self, other: &Digest) -> bool {
+        self.bytes == other.bytes
+    }
+}
+
+impl Eq for Digest {
+    ghost use Rattle.std.specs.Cmp.Lexicographic.{nat_list_eq_equiv};
+
+    ghost laws = { nat_list_eq_equiv };
+}
