@@ -16,3 +16,6 @@ pub use digest::Digest;
 pub use problem_kind::ProblemKind;
 pub use spelling::text_of;
 pub use text::{Text, TextError};
+
+#[cfg(test)]
+mod tests;

@@ -1,0 +1,86 @@
+use crate::{Atom, Digest, ProblemKind, Text, TextError, text_of};
+use std::alloc::{AllocError, Global};
+use std::test::Fail;
+
+fn repeated(alloc: Global, piece: &str, times: usize) -> Result<String, AllocError> {
+    let mut text = String::new(alloc);
+    for _ in 0..times {
+        text.push_str(piece)?;
+    }
+    Ok(text)
+}
+
+#[test]
+fn digests_are_those_of_the_standard(rt: HostRuntime) -> Result<(), Fail> {
+    let alloc = rt.alloc();
+    // The examples of FIPS 180-4.
+    let abc = Digest::of(b"abc");
+    let nothing = Digest::of(b"");
+    assert_eq!(rt;
+        hex::encode(alloc, abc.as_bytes())?.as_str(),
+        "ba7816bf8f01cfea414140de5dae2223b00361a396177a9cb410ff61f20015ad"
+    );
+    assert_eq!(rt;
+        hex::encode(alloc, nothing.as_bytes())?.as_str(),
+        "e3b0c44298fc1c149afbf4c8996fb92427ae41e4649b934ca495991b7852b855"
+    );
+    assert!(rt; abc == Digest::of(b"abc"));
+    assert!(rt; abc != nothing);
+    Ok(())
+}
+
+#[test]
+fn atoms_are_spelt(rt: HostRuntime) -> Result<(), Fail> {
+    let alloc = rt.alloc();
+    let cases = [
+        (Atom::Dir, "dir"),
+        (
+            Atom::File(Digest::of(b"abc")),
+            "file ba7816bf8f01cfea414140de5dae2223b00361a396177a9cb410ff61f20015ad",
+        ),
+        (
+            Atom::File(Digest::of(b"")),
+            "file e3b0c44298fc1c149afbf4c8996fb92427ae41e4649b934ca495991b7852b855",
+        ),
+        (Atom::Link(Text::read(alloc, "../a b/é")?), "link =../a b/é"),
+        (Atom::Untracked, "untracked"),
+        (Atom::Problem(ProblemKind::Changed), "problem 1"),
+        (Atom::Problem(ProblemKind::TooLarge), "problem 2"),
+        (Atom::Problem(ProblemKind::Failed), "problem 3"),
+    ];
+    for (atom, spelling) in cases {
+        assert_eq!(rt; text_of(alloc, &atom)?.as_str(), spelling);
+        let copy = atom.copy(alloc)?;
+        assert!(rt; copy == atom, "{spelling}");
+        assert_eq!(rt; text_of(alloc, &copy)?.as_str(), spelling);
+    }
+    Ok(())
+}
+
+#[test]
+fn a_text_has_1_to_4096_bytes(rt: HostRuntime) -> Result<(), Fail> {
+    let alloc = rt.alloc();
+    let cases = [
+        ("a", 0, false),
+        ("a", 1, true),
+        ("/", 4096, true),
+        ("a", 4097, false),
+        ("é", 2048, true),
+        ("é", 2049, false),
+    ];
+    for (piece, times, good) in cases {
+        let text = repeated(alloc, piece, times)?;
+        match Text::read(alloc, text.as_str()) {
+            Ok(read) => {
+                assert!(rt; good, "{times} times {piece}");
+                assert_eq!(rt; read.as_str(), text.as_str());
+                assert_eq!(rt; read.copy(alloc)?.as_str(), text.as_str());
+            }
+            Err(error) => {
+                assert!(rt; !good, "{times} times {piece}");
+                assert_eq!(rt; error, TextError::BadLength);
+            }
+        }
+    }
+    Ok(())
+}
