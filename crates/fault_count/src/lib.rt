@@ -5,13 +5,14 @@
 //! `Rose` of `specs/Rose.antt`, and the step of an adapter's count.
 #![tactic(auto)]
 
-ghost use Rattle.std.specs.Prelude.{◌≡◌, ℕ, ◌+◌, ◌-◌, ◌^◌, min};
+ghost use Rattle.std.specs.Prelude.{◌≡◌, ℕ, ◌+◌, ◌-◌, ◌^◌, ◌≤◌, min};
 ghost use Rattle.fault_count.specs.Rose.{Rose};
 
 /// Counts one more fault. The count stays at 2^64 - 1 once it stands there.
 pub fn count_fault(count: &mut u64)
     ensures value { count.new ≡ min (count.old + 1) (2 ^ 64 - 1) }
     ensures rose { Rose count.old count.new }
+    ensures never_falls { count.old ≤ count.new }
 {
     *count = count.saturating_add(1);
 }

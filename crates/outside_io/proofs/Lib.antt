@@ -1,0 +1,6 @@
+pub mod LinesLemmas
+pub mod PiecesLemmas
+pub mod Ranges
+pub mod Sent
+pub mod SkipLemmas
+pub mod TakingLemmas

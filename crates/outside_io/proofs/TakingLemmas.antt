@@ -1,0 +1,110 @@
+-- What becomes of what is still to be read. Here `a` is all of it as it was, told or not; of it `held` is held, and `b` is
+-- what the source had left; later the source has `c` left.
+use Rattle.std.proofs.Common.{◌≡◌, ◌≢◌, ℕ, ◌+◌, ◌<◌, List, [], ◌∷◌, ◌++◌, Option, Some, None, MatchOption, IfSome, length, take, drop, get_or, inl, inr, refl, ap, sym, subst, ◌∙◌, append_assoc, arith}
+use Rattle.std.proofs.lemmas.List.{append-nil, length-append}
+use Rattle.std.proofs.lemmas.List.Elements.{All-append}
+use Rattle.std.specs.Io.KnownBytes.{Consumes, Keeps, IsAtEnd, prepend_known}
+use Rattle.std.specs.Str.Lines.{lines, strip_carriage_return}
+use Rattle.outside_io.specs.declared.line.Line.{Line}
+use Rattle.outside_io.specs.declared.line.Line.TheVariants.{TooLong}
+use Rattle.outside_io.specs.Lines.{HasNoNewline, IsLine, TakesFirst, TakesNoLine}
+use Rattle.outside_io.specs.Taking.{SkipsLine}
+use Rattle.outside_io.specs.Told.{WhereTold}
+use Rattle.outside_io.proofs.LinesLemmas.{lines-newline, lines-last, at_newline, length-strip_carriage_return}
+
+-- what was held and then read is what is held now
+pub Keeps-read : (a b c : Option (List ℕ)) (held given now : List ℕ) → Keeps a (prepend_known held b) → Consumes b c given → now ≡ held ++ given → Keeps a (prepend_known now c)
+Keeps-read None b c held given now k h e = tt
+Keeps-read (Some x) None c held given now k h e = absurd k
+Keeps-read (Some x) (Some y) None held given now k h e = absurd h
+Keeps-read (Some x) (Some y) (Some z) held given now k h e =
+    ap (λ l. l ++ z) e ∙ append_assoc held given z ∙ ap (λ l. held ++ l) (sym h) ∙ k
+
+-- what was taken behind what was held
+pub Consumes-held : (a b c : Option (List ℕ)) (held part : List ℕ) → Keeps a (prepend_known held b) → Consumes b c part → Consumes a c (held ++ part)
+Consumes-held None b c held part k h = tt
+Consumes-held (Some x) None c held part k h = absurd k
+Consumes-held (Some x) (Some y) None held part k h = absurd h
+Consumes-held (Some x) (Some y) (Some z) held part k h = sym k ∙ ap (λ l. held ++ l) h ∙ sym (append_assoc held part z)
+
+pub TakesNoLine-held : (a b c : Option (List ℕ)) (held : List ℕ) → Keeps a (prepend_known held b) → HasNoNewline held → TakesNoLine b c → TakesNoLine a c
+TakesNoLine-held a b c held k none more =
+    (held ++ more.0, All-append (λ (b : ℕ). b ≢ 10) held more.0 none more.1, Consumes-held a b c held more.0 k more.2)
+
+-- a line that a newline ended
+ended_line : (old raw rest : List ℕ) (answer : Line) → old ≡ raw ++ 10 ∷ rest → HasNoNewline raw → IsLine (strip_carriage_return raw) answer → TakesFirst old rest answer
+ended_line old raw rest answer is none ok = record {
+  bytes = strip_carriage_return raw;
+  first = ap lines is ∙ lines-newline raw rest none;
+  answered = ok;
+  taken = raw ++ 10 ∷ [];
+  cut = is ∙ sym (append_assoc raw (10 ∷ []) rest);
+  ended = inl (raw, refl);
+}
+
+-- a last line
+last_line : (old rest : List ℕ) (answer : Line) → HasNoNewline old → 0 < length old → rest ≡ [] → IsLine old answer → TakesFirst old rest answer
+last_line old rest answer none some end ok = record {
+  bytes = old;
+  first = lines-last old none some ∙ ap (λ l. old ∷ lines l) (sym end);
+  answered = ok;
+  taken = old;
+  cut = sym (ap (λ l. old ++ l) end ∙ append-nil old);
+  ended = inr end;
+}
+
+-- the line that ends at a newline that is held
+pub TakesFirst-newline : (a b : Option (List ℕ)) (line held now : List ℕ) (place : ℕ) (answer : Line) → HasNoNewline line → place < length held → HasNoNewline (take place held) → get_or held place 0 ≡ 10
+    → IsLine (strip_carriage_return (line ++ take place held)) answer → now ≡ drop (place + 1) held → Keeps a (prepend_known (line ++ held) b) → WhereTold a (prepend_known now b) (λ old new. TakesFirst old new answer)
+TakesFirst-newline None b line held now place answer begun within none is ok e k = tt
+TakesFirst-newline (Some x) None line held now place answer begun within none is ok e k = absurd k
+TakesFirst-newline (Some x) (Some y) line held now place answer begun within none is ok e k =
+    let front = take place held in
+    let rest = drop (place + 1) held in
+    let shape : (line ++ (front ++ 10 ∷ rest)) ++ y ≡ (line ++ front) ++ 10 ∷ (rest ++ y) = simp append_assoc in
+    let split : x ≡ (line ++ front) ++ 10 ∷ (rest ++ y) = sym k ∙ ap (λ l. (line ++ l) ++ y) (at_newline held place within is) ∙ shape in
+    ended_line x (line ++ front) (now ++ y) answer (split ∙ ap (λ l. (line ++ front) ++ 10 ∷ (l ++ y)) (sym e)) (All-append (λ (b : ℕ). b ≢ 10) line front begun none) ok
+
+skipped : (x y z held now : List ℕ) → HasNoNewline held → 65537 < length held → held ++ y ≡ x → SkipsLine (Some y) now (Some z) → TakesFirst x (now ++ z) TooLong
+skipped x y z held now none long k (front, clear, inl e) =
+    let raw = held ++ front in
+    let shape : held ++ ((front ++ 10 ∷ []) ++ (now ++ z)) ≡ (held ++ front) ++ 10 ∷ (now ++ z) = simp append_assoc in
+    ended_line x raw (now ++ z) TooLong (sym k ∙ ap (λ l. held ++ l) e ∙ shape) (All-append (λ (b : ℕ). b ≢ 10) held front none clear) (omega (arith, length-append held front, length-strip_carriage_return raw))
+skipped x y z held now none long k (front, clear, inr (e, end, nothing)) =
+    let is : x ≡ held ++ front = sym k ∙ ap (λ l. held ++ l) (e ∙ ap (λ l. front ++ l) end ∙ append-nil front) in
+    let unbroken : HasNoNewline x = subst HasNoNewline (sym is) (All-append (λ (b : ℕ). b ≢ 10) held front none clear) in
+    let len = ap length is in
+    last_line x (now ++ z) TooLong unbroken (omega (arith, length-append held front, len)) (ap (λ l. l ++ z) nothing ∙ end) (omega (arith, length-append held front, len))
+
+-- a line of which more was held than a line may have
+pub TakesFirst-skipped : (a b c : Option (List ℕ)) (held after now : List ℕ) → HasNoNewline held → 65537 < length held → Keeps a (prepend_known held b) → SkipsLine b after c → now ≡ after
+    → WhereTold a (prepend_known now c) (λ old new. TakesFirst old new TooLong)
+TakesFirst-skipped None b c held after now none long k skip e = tt
+TakesFirst-skipped (Some x) None c held after now none long k skip e = absurd k
+TakesFirst-skipped (Some x) (Some y) None held after now none long k (front, clear, inl h) e = absurd h
+TakesFirst-skipped (Some x) (Some y) None held after now none long k (front, clear, inr h) e = absurd h.0
+TakesFirst-skipped (Some x) (Some y) (Some z) held after now none long k skip e =
+    subst (λ (l : List ℕ). TakesFirst x (l ++ z) TooLong) (sym e) (skipped x y z held after none long k skip)
+
+-- the last line, at the end
+pub TakesFirst-last : (a b c : Option (List ℕ)) (held given now : List ℕ) (answer : Line) → HasNoNewline held → 0 < length held → IsLine held answer → Keeps a (prepend_known held b) → Consumes b c given → given ≡ [] → IsAtEnd c → now ≡ []
+    → WhereTold a (prepend_known now c) (λ old new. TakesFirst old new answer)
+TakesFirst-last None b c held given now answer none some ok k h nothing end e = tt
+TakesFirst-last (Some x) None c held given now answer none some ok k h nothing end e = absurd k
+TakesFirst-last (Some x) (Some y) None held given now answer none some ok k h nothing end e = absurd h
+TakesFirst-last (Some x) (Some y) (Some z) held given now answer none some ok k h nothing end e =
+    let is : x ≡ held = sym k ∙ ap (λ l. held ++ l) (h ∙ ap (λ l. l ++ z) nothing ∙ end) ∙ append-nil held in
+    subst (λ (old : List ℕ). TakesFirst old (now ++ z) answer) (sym is) (last_line held (now ++ z) answer none some (ap (λ l. l ++ z) e ∙ end) ok)
+
+-- where nothing is held at the end, there was nothing to be read
+pub IsAtEnd-before : (first b c : Option (List ℕ)) (was held given : List ℕ) → Keeps (prepend_known was first) (prepend_known held b) → held ≡ [] → Consumes b c given → given ≡ [] → IsAtEnd c → was ≡ [] → IsAtEnd first
+IsAtEnd-before None b c was held given k none h nothing end empty = tt
+IsAtEnd-before (Some x) None c was held given k none h nothing end empty = absurd k
+IsAtEnd-before (Some x) (Some y) None was held given k none h nothing end empty = absurd h
+IsAtEnd-before (Some x) (Some y) (Some z) was held given k none h nothing end empty =
+    sym (ap (λ l. l ++ x) empty) ∙ sym k ∙ ap (λ l. l ++ y) none ∙ h ∙ ap (λ l. l ++ z) nothing ∙ end
+
+-- what follows from what is known of the value in a `Some`
+pub IfSome-from_match : {X : Type 0} (P : Type 0) (Q R : X → Type 0) (r : Option X) → MatchOption r P Q → ((x : X) → Q x → R x) → IfSome r R
+IfSome-from_match P Q R None h f = tt
+IfSome-from_match P Q R (Some x) h f = f x h

@@ -1,0 +1,15 @@
+use Rattle.std.proofs.Common.{◌≡◌, ◌-◌, ◌^◌, ◌<◌, ◌≤◌, []}
+use Rattle.outside_io.specs.Lines.{TakesNoLine}
+use Rattle.outside_io.proofs.intake.Intake.skip_line.Given as goal
+
+abbrev pub invariant-loop-self : goal.invariant-loop-self
+invariant-loop-self g l = record {
+  line : l.self.line ≡ [];
+  room : (l.self.room ≡ l.fn.self.room) × (0 < l.self.room);
+  passed : TakesNoLine (g.S.Source.left l.fn.source) (g.S.Source.left l.source);
+  taken : (l.fn.self.taken ≤ l.self.taken) × (l.self.taken ≤ 2 ^ 30);
+  counts : g.S.Source.faults l.fn.source ≤ g.S.Source.faults l.source;
+}
+
+abbrev pub decreases-loop-self : goal.decreases-loop-self
+decreases-loop-self g l = 2 ^ 30 - l.self.taken

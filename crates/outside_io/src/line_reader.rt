@@ -1,0 +1,112 @@
+// Lines from a source's bytes.
+ghost use Rattle.std.specs.Prelude.{◌≡◌, ℕ, ◌+◌, ◌-◌, ◌^◌, ◌<◌, ◌≤◌, List, [], Option, length, IfOk, IfSome, IsErrOf, Some, None};
+ghost use Rattle.std.specs.Io.KnownBytes.{IsAtEnd, Keeps};
+ghost use Rattle.fault_count.specs.Rose.{Rose};
+ghost use Rattle.outside_io.specs.Reading.{lasting};
+
+use super::intake::Intake;
+pub use super::intake::MOST_TAKEN;
+use super::line::{Line, LineFault};
+use super::source::Source;
+use std::alloc::Global;
+use std::marker::Model;
+
+/// Makes lines of a source's bytes, in whatever pieces they come.
+///
+/// A line ends at a newline, and one carriage return before it is dropped; a last line needs no
+/// newline. A line of more than `MOST_LINE_BYTES` bytes is `TooLong`, and is answered once its end
+/// was met. Never more than `MOST_TAKEN` bytes are taken. A read fault and a spent source are
+/// answered again from then on, without asking the source.
+///
+/// Each byte is copied at most three times, and looked at once for a newline, but that those of one
+/// read are looked at again after want of memory. At most `MOST_LINE_BYTES` + 1 bytes of the line
+/// in hand are kept, and one buffer of 16,384 bytes.
+#[derive(Drop)]
+pub struct LineReader {
+    intake: Intake,
+    stuck: Option<LineFault>,
+}
+
+impl Model for LineReader {
+    ghost use Rattle.std.specs.Prelude.{ℕ, ◌≡◌, ◌≤◌, ◌^◌, List, ◌++◌, Some};
+    ghost use Rattle.outside_io.specs.declared.line.LineFault.{LineFault};
+    ghost use Rattle.outside_io.specs.Reading.{ReaderState, lasting};
+
+    ghost Value = { ReaderState };
+
+    ghost view = { λ r. record { held = r.intake.line ++ r.intake.held; taken = r.intake.taken; stuck = r.stuck } };
+
+    ghost invariant = { λ r. (r.intake.taken ≤ 2 ^ 30) × ((fault : LineFault) → r.stuck ≡ Some fault → lasting fault ≡ Some fault) };
+}
+
+impl LineReader {
+    ghost use Rattle.outside_io.specs.Lines.{TakesFirst};
+    ghost use Rattle.outside_io.specs.Reading.{rest_of, stuck_after};
+    ghost use Rattle.outside_io.specs.Told.{WhereTold};
+
+    /// A reader that took nothing yet. It takes no memory.
+    pub fn new(alloc: Global) -> LineReader
+        ensures held { result.held ≡ [] }
+        ensures taken { result.taken ≡ 0 }
+        ensures stuck { result.stuck ≡ None }
+    {
+        LineReader {
+            intake: Intake::new(alloc),
+            stuck: None,
+        }
+    }
+
+    /// The next line of what is held and what `source` gives, or `None` at the end of the input.
+    /// The source is asked only where no whole line is held. It costs the line's length, and what
+    /// was read behind it.
+    pub fn next<S: Source>(
+        &mut self,
+        alloc: Global,
+        source: &mut S,
+    ) -> Result<Option<Line>, LineFault>
+        // The first line of what was left was answered, and the others are left.
+        ensures line { IfOk result (λ answer. IfSome answer (λ line.
+            WhereTold (rest_of self.old (S.left source.old)) (rest_of self.new (S.left source.new))
+            (λ old new. TakesFirst old new line))) }
+
+        // There is no line only where nothing is left, and nothing is held.
+        ensures end { result ≡ Ok None → (self.old.held ≡ []) × (self.new.held ≡ [])
+            × IsAtEnd (S.left source.old) × IsAtEnd (S.left source.new) }
+
+        // Want of memory loses nothing.
+        ensures memory { IsErrOf result LineFault.Memory
+            → Keeps (rest_of self.old (S.left source.old)) (rest_of self.new (S.left source.new)) }
+
+        // A read fault has its cause: the source's count rose, unless the reader was stuck before.
+        ensures read_fault { self.old.stuck ≡ None → IsErrOf result LineFault.ReadFault
+            → Rose (S.faults source.old) (S.faults source.new) }
+        ensures counts { S.faults source.old ≤ S.faults source.new }
+        ensures stuck { self.new.stuck ≡ stuck_after result }
+
+        // A line brings the end nearer.
+        ensures goes_on { IfOk result (λ answer. IfSome answer (λ line.
+            (2 ^ 30 - self.new.taken) + length self.new.held < (2 ^ 30 - self.old.taken) + length self.old.held)) }
+        ensures within { self.new.taken ≤ 2 ^ 30 }
+    {
+        if let Some(fault) = self.stuck {
+            return Err(fault);
+        }
+        self.intake.prepare(alloc)?;
+        let answer = self.intake.next(alloc, source);
+        if let Err(fault) = answer {
+            self.stuck = lasting_fault(fault);
+        }
+        answer
+    }
+}
+
+// The fault that is answered from then on.
+fn lasting_fault(fault: LineFault) -> Option<LineFault>
+    ensures { result ≡ lasting fault }
+{
+    match fault {
+        LineFault::ReadFault => Some(LineFault::ReadFault),
+        LineFault::SourceSpent => Some(LineFault::SourceSpent),
+        LineFault::Memory => None,
+    }
+}

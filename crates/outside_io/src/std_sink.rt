@@ -1,0 +1,50 @@
+// A writer of std as a sink.
+ghost use Rattle.std.specs.Prelude.{◌≡◌, ℕ};
+
+use super::sink::Sink;
+use super::source::Failed;
+use fault_count::count_fault;
+use std::io::Write;
+
+/// A sink over a writer of std. It tells what the writer tells. Each `Err` of the writer is a
+/// fault, and so is a write that takes nothing; both are counted, and the count stays at
+/// 2^64 - 1. Nothing is flushed: give it a writer that keeps nothing back.
+#[derive(Drop)]
+pub struct StdSink<T> {
+    inner: T,
+    faults: u64,
+}
+
+impl<T: Write> StdSink<T> {
+    /// A sink over `inner`, with no fault so far.
+    pub fn new(inner: T) -> StdSink<T>
+        ensures written { ⟦<StdSink<T> as Sink>⟧.written result ≡ T.contents inner }
+        ensures faults { ⟦<StdSink<T> as Sink>⟧.faults result ≡ 0 }
+    {
+        StdSink { inner, faults: 0 }
+    }
+
+    /// The writer, with what was written to it.
+    pub fn into_inner(self) -> T
+        ensures { T.contents result ≡ ⟦<StdSink<T> as Sink>⟧.written self }
+    {
+        let StdSink { inner, faults: _ } = self;
+        inner
+    }
+}
+
+impl<T: Write> Sink for StdSink<T> {
+    ghost written = { λ s. T.contents s.inner };
+
+    ghost faults = { λ s. s.faults };
+
+    fn write(&mut self, bytes: &[u8]) -> Result<usize, Failed> {
+        match self.inner.write(bytes) {
+            Ok(count) if count > 0 => Ok(count),
+            _ => {
+                count_fault(&mut self.faults);
+                Err(Failed)
+            }
+        }
+    }
+}
