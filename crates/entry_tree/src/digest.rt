@@ -1,5 +1,5 @@
 // The digest of a file's content.
-ghost use Rattle.std.specs.Prelude.{◌≡◌, ◌==◌, ℕ, List};
+ghost use Rattle.std.specs.Prelude.{◌≡◌, ◌==◌};
 ghost use Rattle.entry_tree.specs.Digest.{IsDigest};
 ghost use Rattle.sha2.specs.Sha256.{sha256};
 

@@ -10,6 +10,15 @@ fn repeated(alloc: Global, piece: &str, times: usize) -> Result<String, AllocErr
     Ok(text)
 }
 
+// The text, if it has a length that a text may have.
+fn text_of_good_length(alloc: Global, text: &str) -> Result<Option<Text>, AllocError> {
+    match Text::read(alloc, text) {
+        Ok(text) => Ok(Some(text)),
+        Err(TextError::BadLength) => Ok(None),
+        Err(TextError::Memory) => Err(AllocError),
+    }
+}
+
 #[test]
 fn digests_are_those_of_the_standard(rt: HostRuntime) -> Result<(), Fail> {
     let alloc = rt.alloc();
@@ -70,16 +79,13 @@ fn a_text_has_1_to_4096_bytes(rt: HostRuntime) -> Result<(), Fail> {
     ];
     for (piece, times, good) in cases {
         let text = repeated(alloc, piece, times)?;
-        match Text::read(alloc, text.as_str()) {
-            Ok(read) => {
+        match text_of_good_length(alloc, text.as_str())? {
+            Some(read) => {
                 assert!(rt; good, "{times} times {piece}");
                 assert_eq!(rt; read.as_str(), text.as_str());
                 assert_eq!(rt; read.copy(alloc)?.as_str(), text.as_str());
             }
-            Err(error) => {
-                assert!(rt; !good, "{times} times {piece}");
-                assert_eq!(rt; error, TextError::BadLength);
-            }
+            None => assert!(rt; !good, "{times} times {piece}"),
         }
     }
     Ok(())

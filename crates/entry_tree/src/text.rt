@@ -1,5 +1,5 @@
 // The text of a symbolic link.
-ghost use Rattle.std.specs.Prelude.{◌≡◌, ◌↔◌, ◌==◌, ℕ, List, OnOk, IfOk, Err};
+ghost use Rattle.std.specs.Prelude.{◌≡◌, ◌↔◌, ◌==◌, OnOk, IfOk, Err};
 ghost use Rattle.entry_tree.specs.Text.{is_text, IsText};
 ghost use Rattle.entry_tree.specs.declared.text.TextError.TheVariants.{BadLength, Memory};
 

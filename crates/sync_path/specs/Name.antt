@@ -1,5 +1,5 @@
 -- Which bytes make a name, the component of a path.
-use Rattle.std.specs.Prelude.{ℕ, Bool, not, ◌&&◌, ◌||◌, ◌==◌, List, [], ◌∷◌, length, nat_le, bytes_eq, IsTrue}
+use Rattle.std.specs.Prelude.{ℕ, Bool, not, ◌&&◌, ◌||◌, ◌==◌, List, length, nat_le, codes, bytes_eq, IsTrue}
 use Rattle.std.specs.List.{list_all}
 
 -- the greatest length of a name, in bytes
@@ -14,9 +14,9 @@ has_name_len bs = nat_le 1 (length bs) && nat_le (length bs) max_name_len
 abbrev pub is_name_byte : ℕ → Bool
 is_name_byte b = nat_le 32 b && not (b == 47)
 
--- `.` and `..` (46 is the dot), which stand for the folder itself and for the folder above
+-- `.` and `..`, which stand for the folder itself and for the folder above
 abbrev pub is_dots : List ℕ → Bool
-is_dots bs = bytes_eq bs (46 ∷ []) || bytes_eq bs (46 ∷ 46 ∷ [])
+is_dots bs = bytes_eq bs (codes ".") || bytes_eq bs (codes "..")
 
 -- bytes that make a name: 1 to 255 of them, each one that may stand in a name, and neither `.` nor `..`.
 -- (That a name is UTF-8 comes from the `&str` that it is read from.)

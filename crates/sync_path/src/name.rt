@@ -1,5 +1,5 @@
 // A component of a path.
-ghost use Rattle.std.specs.Prelude.{◌≡◌, ◌⊎◌, ◌↔◌, ◌==◌, ℕ, List, OnOk, IfOk, IfErr, IsTrue, Some, Err};
+ghost use Rattle.std.specs.Prelude.{◌≡◌, ◌⊎◌, ◌↔◌, ◌==◌, OnOk, IfOk, IfErr, Some, Err};
 ghost use Rattle.std.specs.Cmp.Lexicographic.{slice_cmp};
 ghost use Rattle.std.specs.List.{list_all};
 ghost use Rattle.std.specs.Ordering.{nat_cmp};
@@ -17,7 +17,7 @@ const MAX_NAME_LEN: usize = 255;
 /// A component of a path: 1 to 255 bytes of UTF-8, without `/`, without a byte below 0x20, and neither `.` nor `..`.
 ///
 /// Contracts see a name as its bytes. Names are ordered by their bytes.
-#[derive(Drop)]
+#[derive(Debug, Drop)]
 pub struct Name {
     text: String,
 }
@@ -36,7 +36,7 @@ impl Model for Name {
 impl Name {
     /// Reads a name, which is the whole text. A text that is none is bad at place 0.
     ///
-    /// Cost: the length of the text, of which 256 bytes are looked at.
+    /// Cost: the length of the text, of which at most 255 bytes are looked at; a longer one is refused by its length.
     pub fn read(alloc: Global, text: &str) -> Result<Name, PathError>
         ensures value { IfOk result (λ name. name ≡ text.now) }
         ensures accepted { OnOk result (IsName text.now) }

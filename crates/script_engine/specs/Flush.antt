@@ -1,0 +1,69 @@
+-- What a flush does: each name is decided by what the ancestor and the two sides hold there.
+use Rattle.std.specs.Prelude.{◌≡◌, ◌≢◌, ℕ, Bool, true, false, List, if◌then◌else◌, Option, None, Some}
+use Rattle.std.specs.Option.{option_map}
+use Rattle.std.specs.FinMap as map
+use Rattle.std.specs.Str.{bytes_eq}
+use Rattle.sha2.specs.Sha256.{sha256}
+use Rattle.script_engine.specs.declared.flush.Settlement.{Settlement}
+use Rattle.script_engine.specs.declared.flush.Settlement.TheVariants.{Agreed, ToAlpha, ToBeta, Conflict}
+use Rattle.script_engine.specs.Names.{ByName}
+use Rattle.script_engine.specs.World.{Files}
+
+-- two digests are the same, or there is none on either side
+abbrev pub is_same : Option (List ℕ) → Option (List ℕ) → Bool
+is_same None None = true
+is_same None (Some y) = false
+is_same (Some x) None = false
+is_same (Some x) (Some y) = bytes_eq x y
+
+-- the rule: with what the ancestor, alpha and beta hold at a name, the first line that holds
+abbrev pub settle : Option (List ℕ) → Option (List ℕ) → Option (List ℕ) → Settlement
+settle ancestor alpha beta =
+    if is_same alpha beta then Agreed
+    else (if is_same alpha ancestor then ToAlpha
+    else (if is_same beta ancestor then ToBeta
+    else Conflict))
+
+-- the digest of the file that a root holds at a name
+abbrev pub digest_at : Files → List ℕ → Option (List ℕ)
+digest_at files name = option_map sha256 (map.get files name)
+
+-- how a name is decided
+abbrev pub settlement_at : ByName (List ℕ) → Files → Files → List ℕ → Settlement
+settlement_at ancestor alpha beta name =
+    settle (map.get ancestor name) (digest_at alpha name) (digest_at beta name)
+
+-- alpha takes beta's file where it alone is as the ancestor has it
+abbrev pub alpha_after : {X : Type 0} → Settlement → X → X → X
+alpha_after ToAlpha alpha beta = beta
+alpha_after Agreed alpha beta = alpha
+alpha_after ToBeta alpha beta = alpha
+alpha_after Conflict alpha beta = alpha
+
+-- beta takes alpha's file where it alone is as the ancestor has it
+abbrev pub beta_after : {X : Type 0} → Settlement → X → X → X
+beta_after ToBeta alpha beta = alpha
+beta_after Agreed alpha beta = beta
+beta_after ToAlpha alpha beta = beta
+beta_after Conflict alpha beta = beta
+
+-- the ancestor takes what both sides hold then
+abbrev pub ancestor_after : {X : Type 0} → Settlement → X → X → X → X
+ancestor_after Agreed ancestor alpha beta = alpha
+ancestor_after ToAlpha ancestor alpha beta = beta
+ancestor_after ToBeta ancestor alpha beta = alpha
+ancestor_after Conflict ancestor alpha beta = ancestor
+
+-- some name is a conflict
+abbrev pub HasConflict : ByName (List ℕ) → Files → Files → Type 0
+HasConflict ancestor alpha beta = (name : List ℕ) × (settlement_at ancestor alpha beta name ≡ Conflict)
+
+-- no name is a conflict, and at every name the sides and the ancestor hold what the rule leaves there
+pub record Flushes (ancestor : ByName (List ℕ)) (alpha beta : Files) (ancestor' : ByName (List ℕ)) (alpha' beta' : Files) : Type 0 where
+  pub no_conflict : (name : List ℕ) → settlement_at ancestor alpha beta name ≢ Conflict
+  pub at_alpha : (name : List ℕ) → map.get alpha' name
+      ≡ alpha_after (settlement_at ancestor alpha beta name) (map.get alpha name) (map.get beta name)
+  pub at_beta : (name : List ℕ) → map.get beta' name
+      ≡ beta_after (settlement_at ancestor alpha beta name) (map.get alpha name) (map.get beta name)
+  pub at_ancestor : (name : List ℕ) → map.get ancestor' name
+      ≡ ancestor_after (settlement_at ancestor alpha beta name) (map.get ancestor name) (digest_at alpha name) (digest_at beta name)

@@ -1,0 +1,31 @@
+-- What a flush in progress has come to.
+use Rattle.std.specs.Prelude.{◌≡◌, ◌≢◌, ℕ, List, Option, None, Some}
+use Rattle.std.specs.Option.{option_map}
+use Rattle.std.specs.FinMap as map
+use Rattle.sha2.specs.Sha256.{sha256}
+use Rattle.script_engine.specs.declared.flush.Flushed.{Flushed}
+use Rattle.script_engine.specs.declared.flush.Settlement.{Settlement}
+use Rattle.script_engine.specs.declared.flush.Settlement.TheVariants.{Conflict}
+use Rattle.script_engine.specs.Names.{ByName}
+use Rattle.script_engine.specs.Flush.{settle, alpha_after, beta_after, ancestor_after}
+
+-- the map with the value at the name, where there is one
+abbrev pub noted : {X : Type 0} → ByName X → List ℕ → Option X → ByName X
+noted names name None = names
+noted names name (Some value) = map.insert names name value
+
+-- the digest of a file
+abbrev pub digest_of : Option (List ℕ) → Option (List ℕ)
+digest_of file = option_map sha256 file
+
+-- how a name is decided at which the sides hold these files
+abbrev pub settlement_of : Option (List ℕ) → Option (List ℕ) → Option (List ℕ) → Settlement
+settlement_of ancestor alpha beta = settle ancestor (digest_of alpha) (digest_of beta)
+
+-- the name is no conflict, and what the rule leaves at it is noted
+pub record SettlesName (name : List ℕ) (ancestor alpha beta : Option (List ℕ)) (old new : Flushed) : Type 0 where
+  pub no_conflict : settlement_of ancestor alpha beta ≢ Conflict
+  pub alpha_noted : new.alpha ≡ noted old.alpha name (alpha_after (settlement_of ancestor alpha beta) alpha beta)
+  pub beta_noted : new.beta ≡ noted old.beta name (beta_after (settlement_of ancestor alpha beta) alpha beta)
+  pub ancestor_noted : new.ancestor
+      ≡ noted old.ancestor name (ancestor_after (settlement_of ancestor alpha beta) ancestor (digest_of alpha) (digest_of beta))

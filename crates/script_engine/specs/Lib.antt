@@ -1,0 +1,10 @@
+pub mod Flush
+pub mod Flushed
+pub mod Names
+pub mod Replies
+pub mod Request
+pub mod Run
+pub mod Script
+pub mod Status
+pub mod Words
+pub mod World

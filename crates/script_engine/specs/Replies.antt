@@ -1,0 +1,50 @@
+-- The replies, as bytes.
+use Rattle.std.specs.Prelude.{ℕ, ◌+◌, List, [], ◌∷◌, ◌++◌, codes, decimal}
+use Rattle.std.specs.List.{flat_map}
+use Rattle.std.specs.FinMap as map
+use Rattle.sha2.specs.Sha256.{sha256}
+use Rattle.entry_tree.specs.declared.atom.Atom.TheVariants.{Dir, File}
+use Rattle.entry_tree.specs.Atom.{spelling_of}
+use Rattle.script_engine.specs.World.{Files}
+
+-- a line of output
+abbrev pub output_line : List ℕ → List ℕ
+output_line text = text ++ (10 ∷ [])
+
+-- the identifier of the one session
+abbrev pub identifier : List ℕ
+identifier = codes "sync_00000000-0000-4000-8000-000000000000"
+
+abbrev pub edit_reply : List ℕ
+edit_reply = output_line (codes "ok edit")
+
+abbrev pub create_reply : List ℕ
+create_reply = output_line (codes "ok create " ++ identifier)
+
+-- the reply to the flush that was the session's cycle of this number
+abbrev pub flush_reply : ℕ → List ℕ
+flush_reply cycle =
+    output_line (codes "ok flush " ++ identifier ++ codes " cycle " ++ decimal cycle ++ codes " done conflicts 0 problems 0")
+
+-- one file of a root
+abbrev pub file_line : (List ℕ) × (List ℕ) → List ℕ
+file_line (name, contents) = output_line (codes "  " ++ name ++ codes " " ++ spelling_of (File (sha256 contents)))
+
+-- the root itself and its files, in the order of their names
+abbrev pub show_reply : List ℕ → Files → List ℕ
+show_reply root files =
+    output_line (codes "ok show " ++ root ++ codes " " ++ decimal (map.len files + 1))
+    ++ output_line (codes "  . " ++ spelling_of Dir)
+    ++ flat_map file_line (map.entries files)
+
+-- no root has the name
+abbrev pub no_root_reply : List ℕ → List ℕ
+no_root_reply root = output_line (codes "refused 13 no-root " ++ root)
+
+-- no session has the name or the identifier
+abbrev pub no_session_reply : List ℕ
+no_session_reply = output_line (codes "refused 20 no-session")
+
+-- the line is no form, or asks for what isn't built
+abbrev pub not_yet_reply : List ℕ
+not_yet_reply = output_line (codes "refused 39 not-yet")

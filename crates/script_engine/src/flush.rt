@@ -1,0 +1,294 @@
+//! A flush: each name is decided by what the ancestor and the two sides hold there.
+ghost use Rattle.std.specs.Prelude.{◌≡◌, IfOk, OnOk, MatchBool, MatchOption};
+ghost use Rattle.std.specs.Option.{option_copied};
+ghost use Rattle.script_engine.specs.declared.flush.Settlement.TheVariants.{Conflict};
+ghost use Rattle.script_engine.specs.Flush.{is_same, settle, HasConflict, Flushes};
+ghost use Rattle.script_engine.specs.Flushed.{noted, digest_of, settlement_of, SettlesName};
+
+use crate::name_map::NameMap;
+use crate::word::Contents;
+use entry_tree::Digest;
+use std::alloc::{AllocError, Global};
+use sync_path::Name;
+
+/// How a name is decided.
+#[derive(Clone, Copy, Debug, PartialEq, Eq)]
+pub enum Settlement {
+    /// Both sides hold the same.
+    Agreed,
+    /// Alpha takes beta's file.
+    ToAlpha,
+    /// Beta takes alpha's file.
+    ToBeta,
+    /// Both sides have changed, and differ.
+    Conflict,
+}
+
+/// What the two sides and the ancestor hold after a flush.
+#[derive(Drop)]
+pub(crate) struct Flushed {
+    pub(crate) alpha: NameMap<Contents>,
+    pub(crate) beta: NameMap<Contents>,
+    pub(crate) ancestor: NameMap<Digest>,
+}
+
+/// How a name is decided at which the ancestor, alpha and beta hold files of these digests.
+pub(crate) fn settle(
+    ancestor: &Option<Digest>,
+    alpha: &Option<Digest>,
+    beta: &Option<Digest>,
+) -> Settlement
+    ensures { result ≡ settle ancestor.now alpha.now beta.now }
+{
+    if is_same(alpha, beta) {
+        Settlement::Agreed
+    } else if is_same(alpha, ancestor) {
+        Settlement::ToAlpha
+    } else if is_same(beta, ancestor) {
+        Settlement::ToBeta
+    } else {
+        Settlement::Conflict
+    }
+}
+
+fn is_same(first: &Option<Digest>, second: &Option<Digest>) -> bool
+    ensures { result ≡ is_same first.now second.now }
+{
+    match (first, second) {
+        (None, None) => true,
+        (Some(first), Some(second)) => first == second,
+        _ => false,
+    }
+}
+
+/// What the two sides and the ancestor hold after a flush from what they hold now. None where some
+/// name is a conflict.
+///
+/// It takes memory for copies of the files that the sides hold then. It costs O(n log n) for n
+/// names, and reads each file once for its digest and once for each copy.
+pub(crate) fn flush(
+    alloc: Global,
+    ancestor: &NameMap<Digest>,
+    alpha: &NameMap<Contents>,
+    beta: &NameMap<Contents>,
+) -> Result<Option<Flushed>, AllocError>
+    ensures { IfOk result (λ flushed. MatchOption flushed
+        (HasConflict ancestor.now alpha.now beta.now)
+        (λ f. Flushes ancestor.now alpha.now beta.now f.ancestor f.alpha f.beta)) }
+{
+    let mut flushed = Flushed {
+        alpha: NameMap::new(alloc),
+        beta: NameMap::new(alloc),
+        ancestor: NameMap::new(alloc),
+    };
+    'alphas: for (name, contents) in alpha.iter() {
+        let agreed = ancestor.get(name).copied();
+        if !settle_into(
+            alloc,
+            &mut flushed,
+            name,
+            agreed,
+            Some(contents),
+            beta.get(name),
+        )? {
+            return Ok(None);
+        }
+    }
+    'betas: for (name, contents) in beta.iter() {
+        if alpha.get(name).is_some() {
+            continue;
+        }
+        let agreed = ancestor.get(name).copied();
+        if !settle_into(alloc, &mut flushed, name, agreed, None, Some(contents))? {
+            return Ok(None);
+        }
+    }
+    Ok(Some(flushed))
+}
+
+/// Notes what a flush leaves at a name at which the ancestor and the sides hold these. False where
+/// the name is a conflict.
+fn settle_into<'a>(
+    alloc: Global,
+    flushed: &mut Flushed,
+    name: &Name,
+    ancestor: Option<Digest>,
+    alpha: Option<&'a Contents>,
+    beta: Option<&'a Contents>,
+) -> Result<bool, AllocError>
+    ensures { IfOk result (λ settled. MatchBool settled
+        (SettlesName name.now ancestor (option_copied alpha.entry) (option_copied beta.entry) flushed.old flushed.new)
+        (settlement_of ancestor (option_copied alpha.entry) (option_copied beta.entry) ≡ Conflict)) }
+{
+    let alpha_digest = digest_of(alpha);
+    let beta_digest = digest_of(beta);
+    let (alpha_file, beta_file, agreed) = match settle(&ancestor, &alpha_digest, &beta_digest) {
+        Settlement::Agreed => (alpha, beta, alpha_digest),
+        Settlement::ToAlpha => (beta, beta, beta_digest),
+        Settlement::ToBeta => (alpha, alpha, alpha_digest),
+        Settlement::Conflict => return Ok(false),
+    };
+    note_file(alloc, &mut flushed.alpha, name, alpha_file)?;
+    note_file(alloc, &mut flushed.beta, name, beta_file)?;
+    note_digest(alloc, &mut flushed.ancestor, name, agreed)?;
+    Ok(true)
+}
+
+/// The digest of a file.
+fn digest_of(file: Option<&Contents>) -> Option<Digest>
+    ensures { result ≡ digest_of (option_copied file.entry) }
+{
+    match file {
+        None => None,
+        Some(contents) => Some(Digest::of(contents.as_slice())),
+    }
+}
+
+/// Puts a copy of the file, where there is one, at the name.
+fn note_file(
+    alloc: Global,
+    files: &mut NameMap<Contents>,
+    name: &Name,
+    file: Option<&Contents>,
+) -> Result<(), AllocError>
+    ensures { OnOk result (files.new ≡ noted files.old name.now (option_copied file.entry)) }
+{
+    match file {
+        None => Ok(()),
+        Some(contents) => {
+            let contents = Contents::new(alloc, contents.as_slice())?;
+            files.insert(name.copy(alloc)?, contents)
+        }
+    }
+}
+
+/// Puts the digest, where there is one, at the name.
+fn note_digest(
+    alloc: Global,
+    digests: &mut NameMap<Digest>,
+    name: &Name,
+    digest: Option<Digest>,
+) -> Result<(), AllocError>
+    ensures { OnOk result (digests.new ≡ noted digests.old name.now digest) }
+{
+    match digest {
+        None => Ok(()),
+        Some(digest) => digests.insert(name.copy(alloc)?, digest),
+    }
+}
+
+#[cfg(test)]
+mod tests {
+    use super::{Flushed, flush};
+    use crate::name_map::NameMap;
+    use crate::word::Contents;
+    use entry_tree::Digest;
+    use std::alloc::Global;
+    use std::test::Fail;
+    use sync_path::Name;
+
+    const X: Option<&str> = Some("x");
+
+    const Y: Option<&str> = Some("y");
+
+    const Z: Option<&str> = Some("z");
+
+    /// A name, and what the ancestor, alpha and beta hold there.
+    type Case = (
+        &'static str,
+        Option<&'static str>,
+        Option<&'static str>,
+        Option<&'static str>,
+    );
+
+    fn put_file(
+        alloc: Global,
+        files: &mut NameMap<Contents>,
+        name: &Name,
+        text: Option<&str>,
+    ) -> Result<(), Fail> {
+        if let Some(text) = text {
+            files.insert(name.copy(alloc)?, Contents::new(alloc, text.as_bytes())?)?;
+        }
+        Ok(())
+    }
+
+    fn flush_of(alloc: Global, cases: &[Case]) -> Result<Option<Flushed>, Fail> {
+        let mut ancestor = NameMap::new(alloc);
+        let mut alpha = NameMap::new(alloc);
+        let mut beta = NameMap::new(alloc);
+        for &(name, agreed, at_alpha, at_beta) in cases {
+            let name = Name::read(alloc, name)?;
+            if let Some(text) = agreed {
+                ancestor.insert(name.copy(alloc)?, Digest::of(text.as_bytes()))?;
+            }
+            put_file(alloc, &mut alpha, &name, at_alpha)?;
+            put_file(alloc, &mut beta, &name, at_beta)?;
+        }
+        Ok(flush(alloc, &ancestor, &alpha, &beta)?)
+    }
+
+    fn has_file(files: &NameMap<Contents>, name: &Name, text: Option<&str>) -> bool {
+        match (files.get(name), text) {
+            (Some(contents), Some(text)) => contents.as_slice() == text.as_bytes(),
+            (None, None) => true,
+            _ => false,
+        }
+    }
+
+    fn has_digest(digests: &NameMap<Digest>, name: &Name, text: Option<&str>) -> bool {
+        match (digests.get(name), text) {
+            (Some(digest), Some(text)) => *digest == Digest::of(text.as_bytes()),
+            (None, None) => true,
+            _ => false,
+        }
+    }
+
+    #[test]
+    fn each_name_is_settled(rt: HostRuntime) -> Result<(), Fail> {
+        let alloc = rt.alloc();
+        let cases = [
+            ("made at alpha", None, X, None),
+            ("made at beta", None, None, X),
+            ("made at both", None, X, X),
+            ("changed at alpha", Y, X, Y),
+            ("changed at beta", Y, Y, X),
+            ("changed at both", Y, X, X),
+            ("held by neither", Y, None, None),
+        ];
+        let flushed = flush_of(alloc, &cases)?.ok_or("a conflict")?;
+        for (text, _, alpha, beta) in cases {
+            let name = Name::read(alloc, text)?;
+            let after = if alpha.is_some() || beta.is_some() {
+                X
+            } else {
+                None
+            };
+            assert!(rt; has_file(&flushed.alpha, &name, after), "alpha: {text}");
+            assert!(rt; has_file(&flushed.beta, &name, after), "beta: {text}");
+            assert!(rt;
+                has_digest(&flushed.ancestor, &name, after),
+                "ancestor: {text}"
+            );
+        }
+        Ok(())
+    }
+
+    #[test]
+    fn files_that_changed_apart_are_a_conflict(rt: HostRuntime) -> Result<(), Fail> {
+        let alloc = rt.alloc();
+        let agreed = ("agreed", X, X, X);
+        for conflict in [
+            ("made", None, X, Y),
+            ("changed", X, Y, Z),
+            ("removed", X, None, Y),
+        ] {
+            assert!(rt;
+                flush_of(alloc, &[agreed, conflict])?.is_none(),
+                "{}",
+                conflict.0
+            );
+        }
+        Ok(())
+    }
+}

@@ -1,0 +1,27 @@
+//! Reads a script line by line and answers each line, over two roots of plain files.
+//!
+//! `run_script` is the call that the program makes. Its contract says that what it writes is the
+//! replies of a fold over the lines of what it reads (`specs/Script.antt`): each line is read by one
+//! grammar (`specs/Request.antt`), and a flush decides each name by one rule (`specs/Flush.antt`).
+#![tactic(auto)]
+
+mod flat_roots;
+mod flush;
+mod name_map;
+mod replies;
+mod request;
+mod script;
+mod session;
+mod status;
+mod step;
+mod word;
+mod words;
+
+pub use flat_roots::{FlatRoots, RootName};
+pub use name_map::NameMap;
+pub use script::run_script;
+pub use status::Status;
+pub use word::Contents;
+
+#[cfg(test)]
+mod tests;
