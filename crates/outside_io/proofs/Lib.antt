@@ -4,3 +4,4 @@ pub mod Ranges
 pub mod Sent
 pub mod SkipLemmas
 pub mod TakingLemmas
+pub mod Turns

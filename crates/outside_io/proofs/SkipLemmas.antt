@@ -26,14 +26,14 @@ pub TakesNoLine-kept : (a b c : Option (List ℕ)) → TakesNoLine a b → Keeps
 TakesNoLine-kept a b c before k = (before.0, before.1, Consumes-kept a b c before.0 before.2 k)
 
 -- the end came
-pub SkipsLine-end : (a b c : Option (List ℕ)) (bytes : List ℕ) → TakesNoLine a b → Consumes b c bytes → IsAtEnd c → bytes ≡ [] → SkipsLine a bytes c
-SkipsLine-end a b c bytes before h end none =
-    (before.0, before.1, inr (subst (Consumes a c) (ap (λ l. before.0 ++ l) none ∙ append-nil before.0) (Consumes-trans a b c before.0 bytes before.2 h), end, none))
+pub SkipsLine-end : {Met : Type 0} (a b c : Option (List ℕ)) (bytes : List ℕ) → TakesNoLine a b → Consumes b c bytes → IsAtEnd c → bytes ≡ [] → Met → SkipsLine Met a bytes c
+SkipsLine-end a b c bytes before h end none met =
+    (before.0, before.1, inr (subst (Consumes a c) (ap (λ l. before.0 ++ l) none ∙ append-nil before.0) (Consumes-trans a b c before.0 bytes before.2 h), end, none, met))
 
 -- a newline came
-pub SkipsLine-newline : (a b c : Option (List ℕ)) (bytes : List ℕ) (place : ℕ) → TakesNoLine a b → Consumes b c bytes → place < length bytes → HasNoNewline (take place bytes) → get_or bytes place 0 ≡ 10
-    → SkipsLine a (drop (place + 1) bytes) c
-SkipsLine-newline a b c bytes place before h within none is =
+pub SkipsLine-newline : (Met : Type 0) (a b c : Option (List ℕ)) (bytes : List ℕ) (place : ℕ) → TakesNoLine a b → Consumes b c bytes → place < length bytes → HasNoNewline (take place bytes) → get_or bytes place 0 ≡ 10
+    → SkipsLine Met a (drop (place + 1) bytes) c
+SkipsLine-newline Met a b c bytes place before h within none is =
     let front = take place bytes ++ 10 ∷ [] in
     let rest = drop (place + 1) bytes in
     let split : bytes ≡ front ++ rest = at_newline bytes place within is ∙ sym (append_assoc (take place bytes) (10 ∷ []) rest) in (

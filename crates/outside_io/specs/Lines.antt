@@ -19,16 +19,17 @@ abbrev pub IsLine : List ℕ → Line → Type 0
 IsLine bytes (Full v) = (v.items ≡ bytes) × (length bytes ≤ 65536)
 IsLine bytes TooLong = 65536 < length bytes
 
--- From the bytes old their first line was taken, and new is what stands behind it.
-pub record TakesFirst (old new : List ℕ) (line : Line) : Type 0 where
+-- From the bytes old their first line was taken, and new is what stands behind it. Met says that the end of the input
+-- was met.
+pub record TakesFirst (Met : Type 0) (old new : List ℕ) (line : Line) : Type 0 where
   -- the bytes of the first line, of which the others are left
   pub bytes : List ℕ
   pub first : lines old ≡ bytes ∷ lines new
   pub answered : IsLine bytes line
-  -- what was taken ends with the end of the line, or with the input
+  -- what was taken ends with the end of the line, or with the input, whose end was met
   pub taken : List ℕ
   pub cut : old ≡ taken ++ new
-  pub ended : EndsWithNewline taken ⊎ (new ≡ [])
+  pub ended : EndsWithNewline taken ⊎ ((new ≡ []) × Met)
 
 -- What was taken since, of the bytes that were to be read, holds no end of a line.
 abbrev pub TakesNoLine : Option (List ℕ) → Option (List ℕ) → Type 0

@@ -4,7 +4,7 @@ ghost use Rattle.std.specs.Io.KnownBytes.{Consumes, IsAtEnd, Keeps};
 ghost use Rattle.std.specs.Str.Lines.{strip_carriage_return};
 ghost use Rattle.fault_count.specs.Rose.{Rose};
 ghost use Rattle.outside_io.specs.Lines.{HasNoNewline, IsLine, TakesFirst, TakesNoLine};
-ghost use Rattle.outside_io.specs.Taking.{rest_of_taking, SkipsLine};
+ghost use Rattle.outside_io.specs.Taking.{rest_of_taking, CountsTaken, SkipsLine};
 ghost use Rattle.outside_io.specs.Told.{WhereTold};
 
 use super::line::{Line, LineFault, MOST_LINE_BYTES};
@@ -65,6 +65,7 @@ impl Intake {
         ensures held { self.new.held ≡ self.old.held }
         ensures taken { self.new.taken ≡ self.old.taken }
         ensures within { self.new.taken ≤ 2 ^ 30 }
+        ensures unbroken { HasNoNewline self.new.line }
     {
         self.buffer.prepare(alloc)
     }
@@ -78,14 +79,21 @@ impl Intake {
         requires room { 0 < self.old.room }
         ensures line { IfOk result (λ answer. IfSome answer (λ line.
             WhereTold (rest_of_taking self.old (S.left source.old)) (rest_of_taking self.new (S.left source.new))
-            (λ old new. TakesFirst old new line))) }
+            (λ old new. TakesFirst (self.new.taken < 2 ^ 30) old new line))) }
+        ensures met { result ≡ Ok None → self.new.taken < 2 ^ 30 }
+        ensures fault_before { IsErrOf result LineFault.ReadFault → self.new.taken < 2 ^ 30 }
         ensures end { result ≡ Ok None → (self.old.line ++ self.old.held ≡ []) × (self.new.held ≡ [])
             × IsAtEnd (S.left source.old) × IsAtEnd (S.left source.new) }
         ensures begun { OnOk result (self.new.line ≡ []) }
         ensures memory { IsErrOf result LineFault.Memory
             → Keeps (rest_of_taking self.old (S.left source.old)) (rest_of_taking self.new (S.left source.new)) }
         ensures no_line { IsErrOf result LineFault.ReadFault ⊎ IsErrOf result LineFault.SourceSpent
-            → TakesNoLine (rest_of_taking self.old (S.left source.old)) (S.left source.new) × (self.new.held ≡ []) }
+            → TakesNoLine (rest_of_taking self.old (S.left source.old)) (S.left source.new) × (self.new.held ≡ []) × HasNoNewline self.new.line }
+        ensures spent { IsErrOf result LineFault.SourceSpent → self.new.taken ≡ 2 ^ 30 }
+        ensures at_limit { self.old.taken ≡ 2 ^ 30 → HasNoNewline self.old.held
+            → IsErrOf result LineFault.SourceSpent ⊎ IsErrOf result LineFault.Memory }
+        ensures unasked { Contains self.old.held 10 → source.new ≡ source.old }
+        ensures counted { CountsTaken (S.left source.old) self.old.taken (S.left source.new) self.new.taken }
         ensures goes_on { OnOk result (length self.new.held + self.old.taken ≤ length (self.old.line ++ self.old.held) + self.new.taken) }
         ensures shorter { IfOk result (λ answer. IfSome answer (λ line.
             length self.new.held + self.old.taken < length (self.old.line ++ self.old.held) + self.new.taken)) }
@@ -190,6 +198,9 @@ impl Intake {
         ensures counts { S.faults source.old ≤ S.faults source.new }
         ensures read_fault { IsErrOf result LineFault.ReadFault → Rose (S.faults source.old) (S.faults source.new) }
         ensures spent { IsErrOf result LineFault.SourceSpent ↔ (self.old.taken ≡ 2 ^ 30) }
+        ensures asked { OnOk result (self.old.taken < 2 ^ 30) }
+        ensures fault_before { IsErrOf result LineFault.ReadFault → self.new.taken < 2 ^ 30 }
+        ensures counted { CountsTaken (S.left source.old) self.old.taken (S.left source.new) self.new.taken }
         ensures memory { ¬ IsErrOf result LineFault.Memory }
     {
         self.buffer.clear();
@@ -209,7 +220,8 @@ impl Intake {
     /// Drops the line in hand and the buffer's bytes, and passes over the rest of the line.
     fn skip_line<S: Source>(&mut self, source: &mut S) -> Result<(), LineFault>
         requires { 0 < self.old.room }
-        ensures ok { OnOk result (SkipsLine (S.left source.old) self.new.held (S.left source.new)) }
+        ensures ok { OnOk result (SkipsLine (self.new.taken < 2 ^ 30) (S.left source.old) self.new.held (S.left source.new)) }
+        ensures fault_before { IsErrOf result LineFault.ReadFault → self.new.taken < 2 ^ 30 }
         ensures err { OnErr result (TakesNoLine (S.left source.old) (S.left source.new) × (self.new.held ≡ [])) }
         ensures line { self.new.line ≡ [] }
         ensures room { self.new.room ≡ self.old.room }
@@ -218,6 +230,9 @@ impl Intake {
         ensures counts { S.faults source.old ≤ S.faults source.new }
         ensures read_fault { IsErrOf result LineFault.ReadFault → Rose (S.faults source.old) (S.faults source.new) }
         ensures memory { ¬ IsErrOf result LineFault.Memory }
+        ensures spent { IsErrOf result LineFault.SourceSpent → self.new.taken ≡ 2 ^ 30 }
+        ensures at_limit { self.old.taken ≡ 2 ^ 30 → IsErrOf result LineFault.SourceSpent }
+        ensures counted { CountsTaken (S.left source.old) self.old.taken (S.left source.new) self.new.taken }
     {
         self.line.clear();
         loop {

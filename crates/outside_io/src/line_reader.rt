@@ -1,5 +1,5 @@
 // Lines from a source's bytes.
-ghost use Rattle.std.specs.Prelude.{◌≡◌, ℕ, ◌+◌, ◌-◌, ◌^◌, ◌<◌, ◌≤◌, List, [], Option, length, IfOk, IfSome, IsErrOf, Some, None};
+ghost use Rattle.std.specs.Prelude.{◌≡◌, ℕ, ◌+◌, ◌-◌, ◌^◌, ◌<◌, ◌≤◌, ◌⊎◌, List, [], Option, length, Contains, IfOk, IfSome, IsErrOf, Some, None};
 ghost use Rattle.std.specs.Io.KnownBytes.{IsAtEnd, Keeps};
 ghost use Rattle.fault_count.specs.Rose.{Rose};
 ghost use Rattle.outside_io.specs.Reading.{lasting};
@@ -28,20 +28,20 @@ pub struct LineReader {
 }
 
 impl Model for LineReader {
-    ghost use Rattle.std.specs.Prelude.{ℕ, ◌≡◌, ◌≤◌, ◌^◌, List, ◌++◌, Some};
-    ghost use Rattle.outside_io.specs.declared.line.LineFault.{LineFault};
-    ghost use Rattle.outside_io.specs.Reading.{ReaderState, lasting};
+    ghost use Rattle.std.specs.Prelude.{ℕ, List, ◌++◌};
+    ghost use Rattle.outside_io.specs.Reading.{ReaderState, IsReader};
 
     ghost Value = { ReaderState };
 
     ghost view = { λ r. record { held = r.intake.line ++ r.intake.held; taken = r.intake.taken; stuck = r.stuck } };
 
-    ghost invariant = { λ r. (r.intake.taken ≤ 2 ^ 30) × ((fault : LineFault) → r.stuck ≡ Some fault → lasting fault ≡ Some fault) };
+    ghost invariant = { λ r. IsReader (r.intake.line ++ r.intake.held) r.intake.taken r.stuck };
 }
 
 impl LineReader {
-    ghost use Rattle.outside_io.specs.Lines.{TakesFirst};
+    ghost use Rattle.outside_io.specs.Lines.{HasNoNewline, TakesFirst, TakesNoLine};
     ghost use Rattle.outside_io.specs.Reading.{rest_of, stuck_after};
+    ghost use Rattle.outside_io.specs.Taking.{CountsTaken};
     ghost use Rattle.outside_io.specs.Told.{WhereTold};
 
     /// A reader that took nothing yet. It takes no memory.
@@ -64,14 +64,16 @@ impl LineReader {
         alloc: Global,
         source: &mut S,
     ) -> Result<Option<Line>, LineFault>
-        // The first line of what was left was answered, and the others are left.
+        // The first line of what was left was answered, and the others are left. One that no newline
+        // ended comes only where the end was met, which is before 2^30 bytes were taken.
         ensures line { IfOk result (λ answer. IfSome answer (λ line.
             WhereTold (rest_of self.old (S.left source.old)) (rest_of self.new (S.left source.new))
-            (λ old new. TakesFirst old new line))) }
+            (λ old new. TakesFirst (self.new.taken < 2 ^ 30) old new line))) }
 
         // There is no line only where nothing is left, and nothing is held.
         ensures end { result ≡ Ok None → (self.old.held ≡ []) × (self.new.held ≡ [])
             × IsAtEnd (S.left source.old) × IsAtEnd (S.left source.new) }
+        ensures met { result ≡ Ok None → self.new.taken < 2 ^ 30 }
 
         // Want of memory loses nothing.
         ensures memory { IsErrOf result LineFault.Memory
@@ -80,13 +82,32 @@ impl LineReader {
         // A read fault has its cause: the source's count rose, unless the reader was stuck before.
         ensures read_fault { self.old.stuck ≡ None → IsErrOf result LineFault.ReadFault
             → Rose (S.faults source.old) (S.faults source.new) }
+        ensures fault_before { self.old.stuck ≡ None → IsErrOf result LineFault.ReadFault → self.new.taken < 2 ^ 30 }
         ensures counts { S.faults source.old ≤ S.faults source.new }
         ensures stuck { self.new.stuck ≡ stuck_after result }
+
+        // At a fault, what was held and what was read since hold no whole line.
+        ensures no_line { IsErrOf result LineFault.ReadFault ⊎ IsErrOf result LineFault.SourceSpent
+            → TakesNoLine (rest_of self.old (S.left source.old)) (S.left source.new) }
+
+        // The source is spent only once 2^30 bytes were taken, and never more are. It is where no
+        // whole line is held then; before that, memory may be wanting.
+        ensures spent { IsErrOf result LineFault.SourceSpent → self.new.taken ≡ 2 ^ 30 }
+        ensures within { self.new.taken ≤ 2 ^ 30 }
+        ensures at_limit { self.old.stuck ≡ None → self.old.taken ≡ 2 ^ 30 → HasNoNewline self.old.held
+            → IsErrOf result LineFault.SourceSpent ⊎ IsErrOf result LineFault.Memory }
+        ensures counted { CountsTaken (S.left source.old) self.old.taken (S.left source.new) self.new.taken }
+
+        // A stuck reader answers the same, and leaves the source and itself as they are.
+        ensures again { IfSome self.old.stuck (λ fault.
+            (result ≡ Err fault) × (source.new ≡ source.old) × (self.new ≡ self.old)) }
+
+        // The source isn't asked where a whole line is held.
+        ensures unasked { Contains self.old.held 10 → source.new ≡ source.old }
 
         // A line brings the end nearer.
         ensures goes_on { IfOk result (λ answer. IfSome answer (λ line.
             (2 ^ 30 - self.new.taken) + length self.new.held < (2 ^ 30 - self.old.taken) + length self.old.held)) }
-        ensures within { self.new.taken ≤ 2 ^ 30 }
     {
         if let Some(fault) = self.stuck {
             return Err(fault);

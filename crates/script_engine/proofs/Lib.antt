@@ -1,6 +1,7 @@
 pub mod Comparisons
 pub mod Flushing
 pub mod Forms
+pub mod LinesLemmas
 pub mod NameMaps
 pub mod PlainLines
 pub mod Prefixes

@@ -1,16 +1,19 @@
--- How a run of a script goes on from line to line.
-use Rattle.std.proofs.Common.{◌≡◌, ℕ, List, [], ◌∷◌, ◌++◌, Option, Some, None, refl, sym, ◌∙◌, ap, subst, append_assoc}
-use Rattle.std.proofs.lemmas.List.{append-nil}
+-- How a run of a script goes on from line to line, and what it has come to at its end.
+use Rattle.std.proofs.Common.{◌≡◌, ◌⊎◌, inl, inr, ℕ, ◌+◌, ◌<◌, ◌^◌, List, [], ◌∷◌, ◌++◌, length, take, Option, Some, None, refl, sym, ◌∙◌, ap, subst, append_assoc, append-nil, arith}
+use Rattle.std.proofs.lemmas.List.{length-append, nil_from_length}
 use Rattle.std.proofs.KnownBytes.{Appends-nil, Appends-trans}
 use Rattle.std.specs.Str.Lines.{lines}
-use Rattle.std.specs.Io.KnownBytes.{Appends, IsAtEnd, prepend_known}
-use Rattle.outside_io.specs.Lines.{IsLine, TakesFirst}
+use Rattle.std.specs.Io.KnownBytes.{Appends, Consumes, IsAtEnd, prepend_known}
+use Rattle.outside_io.specs.Lines.{HasNoNewline, EndsWithNewline, IsLine, TakesFirst, TakesNoLine}
+use Rattle.outside_io.specs.Taking.{CountsTaken}
 use Rattle.outside_io.specs.Told.{WhereTold}
 use Rattle.outside_io.specs.declared.line.Line.{Line}
 use Rattle.script_engine.specs.declared.flat_roots.FlatRoots.{FlatRoots}
-use Rattle.script_engine.specs.World.{World, start}
+use Rattle.script_engine.specs.declared.status.Status.TheVariants as status
+use Rattle.script_engine.specs.World.{World, start, world_of}
 use Rattle.script_engine.specs.Script.{Answers, Runs}
-use Rattle.script_engine.specs.Run.{IsWholeRun}
+use Rattle.script_engine.specs.Run.{IsWholeLines, HasEnded, DoesEnded, DoesSome, DoesUnwritten, IsRun}
+use Rattle.script_engine.proofs.LinesLemmas.{lines-append, lines-taken}
 
 -- a run that is followed by one more line
 pub Runs-more : (old : World) (done : List (List ℕ)) (text : List ℕ) (mid : World) (line reply : List ℕ) (new : World)
@@ -33,12 +36,15 @@ Runs-more old (first ∷ done) text mid line reply new ran answers = (
   Runs-more ran.1 done ran.2 mid line reply new ran.5 answers,
 )
 
--- Of all the bytes of the source these lines were done, the rest is left, and the replies were written.
+-- Of all the bytes of the source, front was taken as whole lines, which are done, and the rest is left. The text is the
+-- replies to the lines that are done.
 pub record Done (all rest : List ℕ) (written written' : Option (List ℕ)) (roots : FlatRoots) (now : World) : Type 0 where
-  pub lines_done : List (List ℕ)
+  pub front : List ℕ
   pub text : List ℕ
-  pub ran : Runs (start roots) lines_done text now
-  pub cut : lines all ≡ lines_done ++ lines rest
+  pub cut : all ≡ front ++ rest
+  pub ended : IsWholeLines front ⊎ ((rest ≡ []) × (length all < 2 ^ 30))
+  pub lines_cut : lines all ≡ lines front ++ lines rest
+  pub ran : Runs (start roots) (lines front) text now
   pub appended : Appends written written' text
 
 -- the same where the source tells what it holds
@@ -46,48 +52,229 @@ abbrev pub Progress : Option (List ℕ) → Option (List ℕ) → Option (List �
 Progress left rest written written' roots now =
     WhereTold left rest (λ all rest. Done all rest written written' roots now)
 
+-- the told bytes are those that are left, and as many as were taken
+abbrev pub Counted : Option (List ℕ) → Option (List ℕ) → ℕ → Type 0
+Counted left left' taken = WhereTold left left' (λ all rest. length all ≡ length rest + taken)
+
 -- nothing is done yet
 pub Progress-begins : (left written : Option (List ℕ)) (roots : FlatRoots)
     → Progress left (prepend_known [] left) written written roots (start roots)
 Progress-begins None written roots = tt
 Progress-begins (Some all) written roots = record {
-  lines_done = [];
+  front = [];
   text = [];
-  ran = (refl, refl);
   cut = refl;
+  ended = inl (inl refl);
+  lines_cut = refl;
+  ran = (refl, refl);
   appended = Appends-nil written;
 }
 
+pub Counted-begins : (left : Option (List ℕ)) → Counted left left 0
+Counted-begins None = tt
+Counted-begins (Some all) = omega arith
+
+pub Counted-more : (left left' left'' : Option (List ℕ)) (taken taken' : ℕ) → Counted left left' taken
+    → CountsTaken left' taken left'' taken' → Counted left left'' taken'
+Counted-more None left' left'' taken taken' counted more = tt
+Counted-more (Some all) None left'' taken taken' counted more = absurd counted
+Counted-more (Some all) (Some rest) None taken taken' counted more = absurd more
+Counted-more (Some all) (Some rest) (Some rest') taken taken' counted more = counted ∙ more
+
+-- from no bytes no line is taken
+none_taken : (rest line : List ℕ) (more : List (List ℕ)) → rest ≡ [] → lines rest ≡ line ∷ more → ⊥
+none_taken rest line more none first =
+    let no_lines : lines rest ≡ [] = ap lines none in cc
+
+nil_behind : (held left : List ℕ) → held ++ left ≡ [] → left ≡ []
+nil_behind held left none = nil_from_length left (omega (arith, length-append held left, ap length none))
+
+nil_before : (held left : List ℕ) → held ++ left ≡ [] → held ≡ []
+nil_before held left none = nil_from_length held (omega (arith, length-append held left, ap length none))
+
+module _ (all rest held left : List ℕ) (taken : ℕ) (written written' written'' : Option (List ℕ)) (roots : FlatRoots) (now : World) (line : Line)
+    (so_far : Done all rest written written' roots now) (takes : TakesFirst (taken < 2 ^ 30) rest (held ++ left) line) where
+  whole_so_far : IsWholeLines so_far.front
+  whole_so_far = elim so_far.ended [
+    | inl whole ↦ whole
+    | inr none ↦ absurd (none_taken rest takes.bytes (lines (held ++ left)) none.0 takes.first)
+  ]
+
+  front_lines : lines (so_far.front ++ takes.taken) ≡ lines so_far.front ++ takes.bytes ∷ []
+  front_lines = lines-append so_far.front takes.taken whole_so_far
+      ∙ ap (λ (more : List (List ℕ)). lines so_far.front ++ more)
+      (lines-taken (taken < 2 ^ 30) rest takes.taken (held ++ left) takes.bytes takes.cut takes.first takes.ended)
+
+  ended_more : length all ≡ length left + taken
+      → IsWholeLines (so_far.front ++ takes.taken) ⊎ ((held ++ left ≡ []) × (length all < 2 ^ 30))
+  ended_more counted = elim takes.ended [
+    | inl ends ↦ inl (inr (
+      so_far.front ++ ends.0,
+      ap (λ (t : List ℕ). so_far.front ++ t) ends.1 ∙ sym (append_assoc so_far.front ends.0 (10 ∷ [])),
+    ))
+    | inr none ↦ inr (none.0, omega (arith, ap length (nil_behind held left none.0), none.1))
+  ]
+
+  pub Done-more : (reply : List ℕ) (new : World) → length all ≡ length left + taken
+      → Answers now takes.bytes reply new → Appends written' written'' reply → Done all (held ++ left) written written'' roots new
+  Done-more reply new counted answers sent = record {
+    front = so_far.front ++ takes.taken;
+    text = so_far.text ++ reply;
+    cut = so_far.cut ∙ ap (λ (r : List ℕ). so_far.front ++ r) takes.cut
+        ∙ sym (append_assoc so_far.front takes.taken (held ++ left));
+    ended = ended_more counted;
+    lines_cut = so_far.lines_cut ∙ ap (λ (more : List (List ℕ)). lines so_far.front ++ more) takes.first
+        ∙ sym (append_assoc (lines so_far.front) (takes.bytes ∷ []) (lines (held ++ left)))
+        ∙ ap (λ (done : List (List ℕ)). done ++ lines (held ++ left)) (sym front_lines);
+    ran = subst (λ (done : List (List ℕ)). Runs (start roots) done (so_far.text ++ reply) new) (sym front_lines)
+        (Runs-more (start roots) (lines so_far.front) so_far.text now takes.bytes reply new so_far.ran answers);
+    appended = Appends-trans written written' written'' so_far.text reply so_far.appended sent;
+  }
+
+  -- the line is done, and a part of its reply is written
+  pub Done-unwritten : (reply : List ℕ) (new : World) (n : ℕ) → Answers now takes.bytes reply new → n < length reply
+      → DoesUnwritten all roots (so_far.text ++ take n reply) new
+  Done-unwritten reply new n answers part = record {
+    before = so_far.text;
+    mid = now;
+    some = record { done = lines so_far.front; more = lines rest; cut = so_far.lines_cut; ran = so_far.ran };
+    line = takes.bytes;
+    more = lines (held ++ left);
+    next = takes.first;
+    reply = reply;
+    answered = answers;
+    written = n;
+    part = part;
+    text_is = refl;
+  }
+
 -- one more line is done
-pub Progress-more : (left rest rest' written written' written'' : Option (List ℕ)) (roots : FlatRoots) (now new : World) (line : Line) (reply : List ℕ)
+pub Progress-more : (left rest left' : Option (List ℕ)) (held : List ℕ) (taken : ℕ) (written written' written'' : Option (List ℕ)) (roots : FlatRoots) (now new : World)
+    (line : Line) (reply : List ℕ)
     → Progress left rest written written' roots now
-    → WhereTold rest rest' (λ old new. TakesFirst old new line)
+    → WhereTold rest (prepend_known held left') (λ old new. TakesFirst (taken < 2 ^ 30) old new line)
+    → Counted left left' taken
     → ((bytes : List ℕ) → IsLine bytes line → Answers now bytes reply new)
     → Appends written' written'' reply
-    → Progress left rest' written written'' roots new
-Progress-more None rest rest' written written' written'' roots now new line reply so_far takes answers sent = tt
-Progress-more (Some all) None rest' written written' written'' roots now new line reply so_far takes answers sent = absurd so_far
-Progress-more (Some all) (Some rest) None written written' written'' roots now new line reply so_far takes answers sent = absurd takes
-Progress-more (Some all) (Some rest) (Some rest') written written' written'' roots now new line reply so_far takes answers sent = record {
-  lines_done = so_far.lines_done ++ takes.bytes ∷ [];
-  text = so_far.text ++ reply;
-  ran = Runs-more (start roots) so_far.lines_done so_far.text now takes.bytes reply new so_far.ran (answers takes.bytes takes.answered);
-  cut = so_far.cut ∙ ap (λ (more : List (List ℕ)). so_far.lines_done ++ more) takes.first
-      ∙ sym (append_assoc so_far.lines_done (takes.bytes ∷ []) (lines rest'));
-  appended = Appends-trans written written' written'' so_far.text reply so_far.appended sent;
-}
+    → Progress left (prepend_known held left') written written'' roots new
+Progress-more None rest left' held taken w w' w'' roots now new line reply so_far takes counted answers sent = tt
+Progress-more (Some all) None left' held taken w w' w'' roots now new line reply so_far takes counted answers sent = absurd so_far
+Progress-more (Some all) (Some rest) None held taken w w' w'' roots now new line reply so_far takes counted answers sent = absurd takes
+Progress-more (Some all) (Some rest) (Some left) held taken w w' w'' roots now new line reply so_far takes counted answers sent =
+    Done-more all rest held left taken w w' w'' roots now line so_far takes reply new counted (answers takes.bytes takes.answered) sent
 
 -- every line is done once nothing is left
-pub Progress-ends : (left rest written written' : Option (List ℕ)) (roots : FlatRoots) (now : World)
-    → Progress left rest written written' roots now → IsAtEnd rest → IsWholeRun left written written' roots now.roots
-Progress-ends None rest written written' roots now so_far ended = tt
-Progress-ends (Some all) None written written' roots now so_far ended = absurd so_far
-Progress-ends (Some all) (Some rest) written written' roots now so_far ended =
-    let all_done : so_far.lines_done ≡ lines all =
-    sym (so_far.cut ∙ ap (λ (bytes : List ℕ). so_far.lines_done ++ lines bytes) ended ∙ append-nil so_far.lines_done) in (
+pub Run-whole : (left rest left' : Option (List ℕ)) (taken : ℕ) (written written' : Option (List ℕ)) (roots : FlatRoots) (now : World)
+    → Progress left rest written written' roots now → IsAtEnd rest → IsAtEnd left' → Counted left left' taken → taken < 2 ^ 30
+    → IsRun status.Ok left left' written written' roots now.roots
+Run-whole None rest left' taken w w' roots now so_far ended end counted met = tt
+Run-whole (Some all) None left' taken w w' roots now so_far ended end counted met = absurd so_far
+Run-whole (Some all) (Some rest) None taken w w' roots now so_far ended end counted met = absurd counted
+Run-whole (Some all) (Some rest) (Some left) taken w w' roots now so_far ended end counted met =
+    let all_done : lines so_far.front ≡ lines all =
+    sym (so_far.lines_cut ∙ ap (λ (bytes : List ℕ). lines so_far.front ++ lines bytes) ended ∙ append-nil (lines so_far.front)) in (
       so_far.text,
       now,
-      subst (λ (done : List (List ℕ)). Runs (start roots) done so_far.text now) all_done so_far.ran,
       so_far.appended,
+      (
+        end,
+        omega (arith, counted, ap length end),
+        subst (λ (done : List (List ℕ)). Runs (start roots) done so_far.text now) all_done so_far.ran,
+      ),
       refl,
     )
+
+module _ (all rest left' : List ℕ) (taken' : ℕ) (w w' : Option (List ℕ)) (roots : FlatRoots) (now : World)
+    (so_far : Done all rest w w' roots now) (part : List ℕ) (no_end : HasNoNewline part) (passed : rest ≡ part ++ left')
+    (counted : length all ≡ length left' + taken') where
+  all_is : all ≡ (so_far.front ++ part) ++ left'
+  all_is = so_far.cut ∙ ap (λ (r : List ℕ). so_far.front ++ r) passed ∙ sym (append_assoc so_far.front part left')
+
+  pub length-read : length (so_far.front ++ part) ≡ taken'
+  length-read = omega (arith, ap length all_is, length-append (so_far.front ++ part) left', counted)
+
+  pub does_ended : DoesEnded all left' roots so_far.text now (so_far.front ++ part)
+  does_ended = record {
+    taken = all_is;
+    done = lines so_far.front;
+    ended = record {
+      front = so_far.front;
+      unfinished = part;
+      cut = refl;
+      no_end = no_end;
+      ended = elim so_far.ended [
+        | inl whole ↦ inl whole
+        | inr none ↦ inr (
+          nil_behind part left' (sym passed ∙ none.0),
+          nil_before part left' (sym passed ∙ none.0),
+          omega (arith, ap length all_is, length-append (so_far.front ++ part) left', none.1),
+        )
+      ];
+      lines_are = refl;
+    };
+    ran = so_far.ran;
+  }
+
+-- a read failed, before 2^30 bytes were taken
+pub Run-faulted : (left rest left' : Option (List ℕ)) (taken : ℕ) (written written' : Option (List ℕ)) (roots : FlatRoots) (now : World)
+    → Progress left rest written written' roots now → TakesNoLine rest left' → Counted left left' taken → taken < 2 ^ 30
+    → IsRun status.ReadFault left left' written written' roots now.roots
+Run-faulted None rest left' taken w w' roots now so_far no_line counted before = tt
+Run-faulted (Some all) None left' taken w w' roots now so_far no_line counted before = absurd so_far
+Run-faulted (Some all) (Some rest) None taken w w' roots now so_far no_line counted before = absurd counted
+Run-faulted (Some all) (Some rest) (Some left) taken w w' roots now so_far no_line counted before =
+    let read = length-read all rest left taken w w' roots now so_far no_line.0 no_line.1 no_line.2 counted in
+    let done = does_ended all rest left taken w w' roots now so_far no_line.0 no_line.1 no_line.2 counted in
+    (so_far.text, now, so_far.appended, (so_far.front ++ no_line.0, omega (arith, read, before), done), refl)
+
+-- 2^30 bytes were taken
+pub Run-spent : (left rest left' : Option (List ℕ)) (taken : ℕ) (written written' : Option (List ℕ)) (roots : FlatRoots) (now : World)
+    → Progress left rest written written' roots now → TakesNoLine rest left' → Counted left left' taken → taken ≡ 2 ^ 30
+    → IsRun status.SourceSpent left left' written written' roots now.roots
+Run-spent None rest left' taken w w' roots now so_far no_line counted all_taken = tt
+Run-spent (Some all) None left' taken w w' roots now so_far no_line counted all_taken = absurd so_far
+Run-spent (Some all) (Some rest) None taken w w' roots now so_far no_line counted all_taken = absurd counted
+Run-spent (Some all) (Some rest) (Some left) taken w w' roots now so_far no_line counted all_taken =
+    let read = length-read all rest left taken w w' roots now so_far no_line.0 no_line.1 no_line.2 counted in
+    let done = does_ended all rest left taken w w' roots now so_far no_line.0 no_line.1 no_line.2 counted in
+    (so_far.text, now, so_far.appended, (so_far.front ++ no_line.0, read ∙ all_taken, done), refl)
+
+-- memory ran out before the next line was done
+pub Run-wanting : (left rest left' : Option (List ℕ)) (taken : ℕ) (written written' : Option (List ℕ)) (roots : FlatRoots) (now : World)
+    → Progress left rest written written' roots now → Counted left left' taken
+    → IsRun status.NoMemory left left' written written' roots now.roots
+Run-wanting None rest left' taken w w' roots now so_far counted = tt
+Run-wanting (Some all) None left' taken w w' roots now so_far counted = absurd so_far
+Run-wanting (Some all) (Some rest) None taken w w' roots now so_far counted = absurd counted
+Run-wanting (Some all) (Some rest) (Some left) taken w w' roots now so_far counted = (
+  so_far.text,
+  now,
+  so_far.appended,
+  record { done = lines so_far.front; more = lines rest; cut = so_far.lines_cut; ran = so_far.ran },
+  refl,
+)
+
+-- a reply was written in part
+pub Run-unwritten : (left rest left' : Option (List ℕ)) (held : List ℕ) (taken : ℕ) (written written' written'' : Option (List ℕ)) (roots : FlatRoots)
+    (now new : World) (line : Line) (reply : List ℕ)
+    → Progress left rest written written' roots now
+    → WhereTold rest (prepend_known held left') (λ old new. TakesFirst (taken < 2 ^ 30) old new line)
+    → Counted left left' taken
+    → ((bytes : List ℕ) → IsLine bytes line → Answers now bytes reply new)
+    → ((n : ℕ) × (n < length reply) × Appends written' written'' (take n reply))
+    → IsRun status.WriteFault left left' written written'' roots new.roots
+Run-unwritten None rest left' held taken w w' w'' roots now new line reply so_far takes counted answers part = tt
+Run-unwritten (Some all) None left' held taken w w' w'' roots now new line reply so_far takes counted answers part = absurd so_far
+Run-unwritten (Some all) (Some rest) None held taken w w' w'' roots now new line reply so_far takes counted answers part = absurd takes
+Run-unwritten (Some all) (Some rest) (Some left) held taken w w' w'' roots now new line reply so_far takes counted answers part = (
+  so_far.text ++ take part.0 reply,
+  new,
+  Appends-trans w w' w'' so_far.text (take part.0 reply) so_far.appended part.2,
+  Done-unwritten all rest held left taken w w' w'' roots now line so_far takes reply new part.0 (answers takes.bytes takes.answered) part.1,
+  refl,
+)
+
+-- with other words nothing is read or written
+pub Run-refused : (left written : Option (List ℕ)) (roots : FlatRoots) → IsRun status.Usage left left written written roots roots
+Run-refused None written roots = tt
+Run-refused (Some all) written roots = ([], start roots, Appends-nil written, (refl, refl, refl), refl)

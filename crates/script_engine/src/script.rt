@@ -1,6 +1,7 @@
 //! The run of a script: lines are read, done and answered one after another.
-ghost use Rattle.std.specs.Prelude.{◌≡◌, ◌≢◌, ◌↔◌, false, map, string_bytes};
-ghost use Rattle.script_engine.specs.Run.{is_script, IsWholeRun};
+ghost use Rattle.std.specs.Prelude.{◌≡◌, ◌≢◌, ◌≤◌, ◌↔◌, false, map, string_bytes};
+ghost use Rattle.fault_count.specs.Rose.{Rose};
+ghost use Rattle.script_engine.specs.Run.{is_script, IsRun};
 
 use crate::flat_roots::FlatRoots;
 use crate::session::Session;
@@ -25,8 +26,14 @@ pub fn run_script<S: Source, K: Sink>(
     ensures usage { (result ≡ Status.Usage) ↔ (is_script (map string_bytes words.now) ≡ false) }
     ensures untouched { result ≡ Status.Usage →
         (source.new ≡ source.old) × (sink.new ≡ sink.old) × (roots.new ≡ roots.old) }
-    ensures run { result ≡ Status.Ok →
-        IsWholeRun (S.left source.old) (K.written sink.old) (K.written sink.new) roots.old roots.new }
+
+    // A fault is answered only where the object's count rose in this call.
+    ensures read_fault { result ≡ Status.ReadFault → Rose (S.faults source.old) (S.faults source.new) }
+    ensures write_fault { result ≡ Status.WriteFault → Rose (K.faults sink.old) (K.faults sink.new) }
+
+    // However the run ends, what it read, wrote and left is the script's meaning, as far as it came.
+    ensures run { IsRun result (S.left source.old) (S.left source.new)
+        (K.written sink.old) (K.written sink.new) roots.old roots.new }
 {
     if !is_script(words) {
         return Status::Usage;
@@ -52,8 +59,10 @@ fn run_lines<S: Source, K: Sink>(
     roots: &mut FlatRoots,
 ) -> Status
     ensures no_usage { result ≢ Status.Usage }
-    ensures run { result ≡ Status.Ok →
-        IsWholeRun (S.left source.old) (K.written sink.old) (K.written sink.new) roots.old roots.new }
+    ensures read_fault { result ≡ Status.ReadFault → Rose (S.faults source.old) (S.faults source.new) }
+    ensures write_fault { result ≡ Status.WriteFault → Rose (K.faults sink.old) (K.faults sink.new) }
+    ensures run { IsRun result (S.left source.old) (S.left source.new)
+        (K.written sink.old) (K.written sink.new) roots.old roots.new }
 {
     let mut reader = LineReader::new(alloc);
     let mut session: Option<Session> = None;

@@ -1,6 +1,8 @@
 use crate::{FlatRoots, Status, run_script};
 use outside_io::{MemSink, StdSource};
 use std::alloc::Global;
+use std::io;
+use std::io::Read;
 use std::test::Fail;
 use sync_path::Name;
 
@@ -189,5 +191,95 @@ fn a_line_too_long_is_no_form(rt: HostRuntime) -> Result<(), Fail> {
         let (text, _) = output_of(alloc, &["script"], script.as_str())?;
         assert_eq!(rt; text.as_str(), want);
     }
+    Ok(())
+}
+
+// A reader that gives its bytes in two pieces, and then ends or fails.
+#[derive(Drop)]
+struct TwoPieces<'a> {
+    first: &'a [u8],
+    second: &'a [u8],
+    fails: bool,
+}
+
+impl<'a> Read for TwoPieces<'a> {
+    fn read(&mut self, buf: &mut [u8]) -> io::Result<usize> {
+        if self.first.is_empty() {
+            self.first = self.second;
+            self.second = &[];
+        }
+        let count = self.first.len().min(buf.len());
+        if count == 0 && self.fails {
+            return Err(io::Error::from(io::ErrorKind::Other));
+        }
+        buf[..count].copy_from_slice(&self.first[..count]);
+        self.first = &self.first[count..];
+        Ok(count)
+    }
+}
+
+// What a run writes that reads these pieces, and how it ends, over a sink whose writes with these
+// numbers fail.
+fn output_of_pieces(
+    alloc: Global,
+    reader: TwoPieces,
+    failing: &[u64],
+) -> Result<(String, Status), Fail> {
+    let mut roots = FlatRoots::two(alloc);
+    let words = vec![in alloc; String::from_str(alloc, "script")?]?;
+    let mut source = StdSource::new(reader);
+    let mut sink = MemSink::new(alloc, failing)?;
+    let status = run_script(alloc, words.as_slice(), &mut source, &mut sink, &mut roots);
+    let text = std::str::from_utf8(sink.bytes())?;
+    Ok((String::from_str(alloc, text)?, status))
+}
+
+#[test]
+fn pieces_end_where_they_like(rt: HostRuntime) -> Result<(), Fail> {
+    let alloc = rt.alloc();
+    let script = "edit A put a =abc\r\n\nshow A\nshow Z";
+    let want =
+        "ok edit\nok show A 2\n  . dir\n  a file ba7816bf8f01cfea414140de5dae2223b00361a396177a9cb410ff61f20015ad\nrefused 13 no-root Z\n";
+    for cut in 0..=script.len() {
+        let (first, second) = script.as_bytes().split_at(cut.min(script.len()));
+        let reader = TwoPieces {
+            first,
+            second,
+            fails: false,
+        };
+        let (text, status) = output_of_pieces(alloc, reader, &[])?;
+        assert_eq!(rt; text.as_str(), want, "cut at {cut}");
+        assert_eq!(rt; status, Status::Ok);
+    }
+    Ok(())
+}
+
+#[test]
+fn a_failed_read_ends_the_run_behind_the_lines_that_ended(rt: HostRuntime) -> Result<(), Fail> {
+    let alloc = rt.alloc();
+    let reader = TwoPieces {
+        first: b"edit A put a =\nshow A\n",
+        second: b"show ",
+        fails: true,
+    };
+    let (text, status) = output_of_pieces(alloc, reader, &[])?;
+    let want =
+        "ok edit\nok show A 2\n  . dir\n  a file e3b0c44298fc1c149afbf4c8996fb92427ae41e4649b934ca495991b7852b855\n";
+    assert_eq!(rt; text.as_str(), want);
+    assert_eq!(rt; status.number(), 3);
+    Ok(())
+}
+
+#[test]
+fn a_failed_write_ends_the_run_behind_the_replies_before(rt: HostRuntime) -> Result<(), Fail> {
+    let alloc = rt.alloc();
+    let reader = TwoPieces {
+        first: b"edit A put a =\nshow A\nshow B\n",
+        second: b"",
+        fails: false,
+    };
+    let (text, status) = output_of_pieces(alloc, reader, &[1])?;
+    assert_eq!(rt; text.as_str(), "ok edit\n");
+    assert_eq!(rt; status.number(), 4);
     Ok(())
 }

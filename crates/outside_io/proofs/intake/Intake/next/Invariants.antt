@@ -1,6 +1,7 @@
 use Rattle.std.proofs.Common.{◌≡◌, ◌+◌, ◌-◌, ◌^◌, ◌<◌, ◌≤◌, ◌++◌, length}
 use Rattle.std.specs.Io.KnownBytes.{Keeps}
-use Rattle.outside_io.specs.Taking.{rest_of_taking}
+use Rattle.outside_io.specs.Taking.{rest_of_taking, CountsTaken}
+use Rattle.outside_io.proofs.Turns.{IsTurn}
 use Rattle.outside_io.proofs.intake.Intake.next.Given as goal
 
 abbrev pub invariant-loop-place : goal.invariant-loop-place
@@ -9,6 +10,8 @@ invariant-loop-place g l = record {
   kept : Keeps (rest_of_taking l.fn.self (g.S.Source.left l.fn.source)) (rest_of_taking l.self (g.S.Source.left l.source));
   sum : length (l.self.line ++ l.self.held) + l.fn.self.taken ≡ length (l.fn.self.line ++ l.fn.self.held) + l.self.taken;
   taken : l.fn.self.taken ≤ l.self.taken;
+  counted : CountsTaken (g.S.Source.left l.fn.source) l.fn.self.taken (g.S.Source.left l.source) l.self.taken;
+  turn : IsTurn l.fn.self l.fn.source l.self l.source;
   counts : g.S.Source.faults l.fn.source ≤ g.S.Source.faults l.source;
 }
 

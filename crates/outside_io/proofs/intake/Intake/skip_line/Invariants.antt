@@ -1,5 +1,6 @@
 use Rattle.std.proofs.Common.{◌≡◌, ◌-◌, ◌^◌, ◌<◌, ◌≤◌, []}
 use Rattle.outside_io.specs.Lines.{TakesNoLine}
+use Rattle.outside_io.specs.Taking.{CountsTaken}
 use Rattle.outside_io.proofs.intake.Intake.skip_line.Given as goal
 
 abbrev pub invariant-loop-self : goal.invariant-loop-self
@@ -8,6 +9,7 @@ invariant-loop-self g l = record {
   room : (l.self.room ≡ l.fn.self.room) × (0 < l.self.room);
   passed : TakesNoLine (g.S.Source.left l.fn.source) (g.S.Source.left l.source);
   taken : (l.fn.self.taken ≤ l.self.taken) × (l.self.taken ≤ 2 ^ 30);
+  counted : CountsTaken (g.S.Source.left l.fn.source) l.fn.self.taken (g.S.Source.left l.source) l.self.taken;
   counts : g.S.Source.faults l.fn.source ≤ g.S.Source.faults l.source;
 }
 
