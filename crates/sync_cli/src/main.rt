@@ -24,7 +24,7 @@ fn main(rt: HostRuntime) -> ExitCode {
             &mut sink,
             &mut roots,
         ),
-        Err(_) => Status::Usage,
+        Err(error) => status_without_words(&error),
     };
     if status == Status::Usage {
         let _ = eprintln!(rt; "{USAGE}");
@@ -39,4 +39,12 @@ fn words(rt: &(impl Env + AllocGlobal)) -> io::Result<Vec<String>> {
         words.push(word)?;
     }
     Ok(words)
+}
+
+// How a run ends whose words could not be read: words that aren't text are wrong ones.
+fn status_without_words(error: &io::Error) -> Status {
+    match error.kind() {
+        io::ErrorKind::OutOfMemory => Status::NoMemory,
+        _ => Status::Usage,
+    }
 }

@@ -1,0 +1,7 @@
+pub mod Digits
+pub mod Prefixes
+pub mod Shapes
+pub mod Spellings
+pub mod Splitting
+pub mod Found
+pub mod Running

@@ -1,0 +1,10 @@
+pub mod Prefix
+pub mod Fields
+pub mod Kinds
+pub mod Frames
+pub mod Streams
+pub mod Numbers
+pub mod Bytes
+pub mod Steps
+pub mod Readers
+pub mod Held

@@ -1,0 +1,35 @@
+//! The wire format of stream frames: one spelling for each frame, read exactly, wherever the stream is cut.
+//!
+//! A forwarding session carries many streams over one connection. A frame is a kind, one byte, a
+//! stream, four bytes high first, and for two kinds a number and bytes behind it (`wire` has the table).
+//! `write_frame` gives a frame's one spelling. A `FrameReader` takes the bytes of a connection in
+//! pieces of any size and answers the frames that each piece completes. Where no frame continues the
+//! bytes so far, it answers the place of the first byte that is wrong.
+#![tactic(auto)]
+
+mod batch;
+mod data_bytes;
+mod field;
+mod frame;
+mod held;
+mod kind;
+mod laws;
+mod reader;
+mod rest;
+mod scan;
+mod stream_id;
+mod window_amount;
+mod wire;
+mod write;
+
+pub use data_bytes::DataBytes;
+pub use frame::MuxFrame;
+pub use laws::{any_cutting, one_reading, written_is_read};
+pub use reader::{FeedError, FrameReader};
+pub use stream_id::StreamId;
+pub use window_amount::WindowAmount;
+pub use wire::{MAX_AMOUNT, MAX_FRAME, MAX_PAYLOAD};
+pub use write::write_frame;
+
+#[cfg(test)]
+mod tests;

@@ -1,0 +1,3 @@
+pub mod FiniteMap
+pub mod InOneOrder
+pub mod Working

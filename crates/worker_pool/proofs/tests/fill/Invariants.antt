@@ -1,0 +1,5 @@
+use Rattle.worker_pool.specs.ReadyPass.{BelongsTo}
+use Rattle.worker_pool.proofs.tests.fill.Given as goal
+
+abbrev pub invariant-loop-id : goal.invariant-loop-id
+invariant-loop-id g l = BelongsTo l.ready l.pass
