@@ -1,30 +1,29 @@
 -- How far a flush has come: which names it has gone over, and what they hold.
-use Rattle.std.proofs.Common.{◌≡◌, ◌≢◌, ℕ, Ordering, Bool, true, false, ◌||◌, cond, List, Option, Some, None, refl, sym, ap, subst, ◌∙◌}
+use Rattle.std.proofs.Common.{◌≡◌, ℕ, Ordering, Bool, true, false, ◌||◌, cond, List, Option, Some, None, refl, sym, ap, subst, ◌∙◌}
 use Rattle.std.specs.FinMap as map
 use Rattle.std.specs.Cmp.{Equal-is}
 use Rattle.std.specs.Cmp.Lexicographic.{slice_cmp, nat_list_cmp_total}
 use Rattle.std.specs.Option.{is_some}
 use Rattle.std.specs.Ordering.{nat_cmp, eq_by_cmp}
-use Rattle.std.specs.Prelude.{MatchBool}
 use Rattle.std.proofs.lemmas.Map.Lookups.{exact_bytes}
 use Rattle.std.proofs.Math.Bool.{or-false, or-true, or_assoc}
 use Rattle.script_engine.specs.declared.flush.Flushed.{Flushed}
 use Rattle.script_engine.specs.declared.flush.Settlement.{Settlement}
-use Rattle.script_engine.specs.declared.flush.Settlement.TheVariants.{Agreed, Conflict}
+use Rattle.script_engine.specs.declared.flush.Settlement.TheVariants.{Agreed, ToAlpha, ToBeta, Conflict}
 use Rattle.script_engine.specs.Names.{ByName}
 use Rattle.script_engine.specs.World.{Files}
-use Rattle.script_engine.specs.Flush.{Flushes, settlement_at, digest_at, alpha_after, beta_after, ancestor_after}
-use Rattle.script_engine.specs.Flushed.{noted, settlement_of, SettlesName}
+use Rattle.script_engine.specs.Flush.{Flushes, settlement_at, digest_at, alpha_after, beta_after, ancestor_after, is_conflict}
+use Rattle.script_engine.specs.Flushed.{noted, conflict_mark, SettlesName}
 
 -- the names gone over are settled, and the others hold nothing yet
 pub record Progress (gone : List ℕ → Bool) (ancestor : ByName (List ℕ)) (alpha beta : Files) (f : Flushed) : Type 0 where
-  pub no_conflict : (q : List ℕ) → gone q ≡ true → settlement_at ancestor alpha beta q ≢ Conflict
   pub at_alpha : (q : List ℕ) → map.get f.alpha q
       ≡ cond (gone q) (alpha_after (settlement_at ancestor alpha beta q) (map.get alpha q) (map.get beta q)) None
   pub at_beta : (q : List ℕ) → map.get f.beta q
       ≡ cond (gone q) (beta_after (settlement_at ancestor alpha beta q) (map.get alpha q) (map.get beta q)) None
   pub at_ancestor : (q : List ℕ) → map.get f.ancestor q
       ≡ cond (gone q) (ancestor_after (settlement_at ancestor alpha beta q) (map.get ancestor q) (digest_at alpha q) (digest_at beta q)) None
+  pub at_conflicts : (q : List ℕ) → map.get f.conflicts q ≡ cond (gone q) (conflict_mark (settlement_at ancestor alpha beta q)) None
 
 abbrev pub name_cmp : List ℕ → List ℕ → Ordering
 name_cmp = slice_cmp nat_cmp
@@ -64,33 +63,29 @@ as_before g g' x after e h = e ∙ ap (λ b. cond b after None) (sym h)
 
 module _ {ancestor : ByName (List ℕ)} {alpha beta : Files} where
   pub progress_none : (gone : List ℕ → Bool) (f : Flushed) → ((q : List ℕ) → gone q ≡ false)
-      → f.alpha ≡ map.empty → f.beta ≡ map.empty → f.ancestor ≡ map.empty → Progress gone ancestor alpha beta f
-  progress_none gone f none a b c = record {
-    no_conflict = λ q h. absurd (cc (none q));
+      → f.alpha ≡ map.empty → f.beta ≡ map.empty → f.ancestor ≡ map.empty → f.conflicts ≡ map.empty → Progress gone ancestor alpha beta f
+  progress_none gone f none a b c d = record {
     at_alpha = λ q. none_yet _ _ _ (ap (λ m. map.get m q) a ∙ map.get-empty name_cmp q) (none q);
     at_beta = λ q. none_yet _ _ _ (ap (λ m. map.get m q) b ∙ map.get-empty name_cmp q) (none q);
     at_ancestor = λ q. none_yet _ _ _ (ap (λ m. map.get m q) c ∙ map.get-empty name_cmp q) (none q);
+    at_conflicts = λ q. none_yet _ _ _ (ap (λ m. map.get m q) d ∙ map.get-empty name_cmp q) (none q);
   }
 
   pub progress_same : (gone gone' : List ℕ → Bool) (f : Flushed) → ((q : List ℕ) → gone' q ≡ gone q) → Progress gone ancestor alpha beta f → Progress gone' ancestor alpha beta f
   progress_same gone gone' f same p = record {
-    no_conflict = λ q h. p.no_conflict q (sym (same q) ∙ h);
     at_alpha = λ q. as_before _ _ _ _ (p.at_alpha q) (same q);
     at_beta = λ q. as_before _ _ _ _ (p.at_beta q) (same q);
     at_ancestor = λ q. as_before _ _ _ _ (p.at_ancestor q) (same q);
+    at_conflicts = λ q. as_before _ _ _ _ (p.at_conflicts q) (same q);
   }
 
   pub progress_more : (gone gone' : List ℕ → Bool) (f f' : Flushed) (k : List ℕ) → gone k ≡ false → ((q : List ℕ) → gone' q ≡ (gone q || eq_by_cmp name_cmp q k))
       → Progress gone ancestor alpha beta f → SettlesName k (map.get ancestor k) (map.get alpha k) (map.get beta k) f f' → Progress gone' ancestor alpha beta f'
   progress_more gone gone' f f' k new more p s = record {
-    no_conflict = λ q h.
-        elim (gone q) as (λ b. gone q ≡ b → (b || eq_by_cmp name_cmp q k) ≡ true → settlement_at ancestor alpha beta q ≢ Conflict) [
-          | true ↦ λ e _. p.no_conflict q e
-          | false ↦ λ e is. subst (λ x. settlement_at ancestor alpha beta x ≢ Conflict) (sym (same_name q k is)) s.no_conflict
-        ] refl (sym (more q) ∙ h);
     at_alpha = noted_more gone gone' k new more (λ q. alpha_after (settlement_at ancestor alpha beta q) (map.get alpha q) (map.get beta q)) f.alpha f'.alpha p.at_alpha s.alpha_noted;
     at_beta = noted_more gone gone' k new more (λ q. beta_after (settlement_at ancestor alpha beta q) (map.get alpha q) (map.get beta q)) f.beta f'.beta p.at_beta s.beta_noted;
     at_ancestor = noted_more gone gone' k new more (λ q. ancestor_after (settlement_at ancestor alpha beta q) (map.get ancestor q) (digest_at alpha q) (digest_at beta q)) f.ancestor f'.ancestor p.at_ancestor s.ancestor_noted;
+    at_conflicts = noted_more gone gone' k new more (λ q. conflict_mark (settlement_at ancestor alpha beta q)) f.conflicts f'.conflicts p.at_conflicts s.conflicts_noted;
   }
 
 -- ---- a name of beta's, where alpha's are gone over
@@ -122,23 +117,25 @@ settled_at : {X : Type 0} (g : Bool) (x after : Option X) → x ≡ cond g after
 settled_at true x after e h = e
 settled_at false x after e h = e ∙ sym (h refl)
 
-no_conflict_at : (g : Bool) (s : Settlement) → (g ≡ true → s ≢ Conflict) → (g ≡ false → s ≡ Agreed) → s ≢ Conflict
-no_conflict_at true s h k = h refl
-no_conflict_at false s h k = λ e. absurd (let agreed = k refl in cc)
+marked : (s : Settlement) → is_some (conflict_mark s) ≡ is_conflict s
+marked Agreed = refl
+marked ToAlpha = refl
+marked ToBeta = refl
+marked Conflict = refl
 
 module _ {ancestor : ByName (List ℕ)} {alpha beta : Files} where
   pub progress_all : (gone : List ℕ → Bool) (f : Flushed) → ((q : List ℕ) → gone q ≡ (map.contains_key alpha q || map.contains_key beta q))
-      → Progress gone ancestor alpha beta f → Flushes ancestor alpha beta f.ancestor f.alpha f.beta
+      → Progress gone ancestor alpha beta f → Flushes ancestor alpha beta f.ancestor f.alpha f.beta f.conflicts
   progress_all gone f all p =
       let neither : (q : List ℕ) → gone q ≡ false → (map.get alpha q ≡ None) × (map.get beta q ≡ None)
       = λ q e. nothing (map.get alpha q) (map.get beta q) (sym (all q) ∙ e) in
       let agreed : (q : List ℕ) → gone q ≡ false → settlement_at ancestor alpha beta q ≡ Agreed
       = λ q e. rw ((neither q e).0, (neither q e).1) in
       record {
-        no_conflict = λ q. no_conflict_at (gone q) _ (p.no_conflict q) (agreed q);
         at_alpha = λ q. settled_at (gone q) _ _ (p.at_alpha q) (λ e. rw ((neither q e).0, (neither q e).1));
         at_beta = λ q. settled_at (gone q) _ _ (p.at_beta q) (λ e. rw ((neither q e).0, (neither q e).1));
         at_ancestor = λ q. settled_at (gone q) _ _ (p.at_ancestor q) (λ e. rw ((neither q e).0, (neither q e).1));
+        at_conflicts = λ q. ap is_some (settled_at (gone q) _ _ (p.at_conflicts q) (λ e. ap conflict_mark (agreed q e))) ∙ marked (settlement_at ancestor alpha beta q);
       }
 
 -- ---- what `settle_into` says, at the maps' values
@@ -146,14 +143,3 @@ module _ {ancestor : ByName (List ℕ)} {alpha beta : Files} where
 module _ {a a' x x' y y' : Option (List ℕ)} (ea : a ≡ a') (ex : x ≡ x') (ey : y ≡ y') where
   pub settles_at : {k : List ℕ} {f f' : Flushed} → SettlesName k a x y f f' → SettlesName k a' x' y' f f'
   settles_at {k = k} {f = f} {f' = f'} h = subst (λ v. SettlesName k v x' y' f f') ea (subst (λ v. SettlesName k a v y' f f') ex (subst (λ v. SettlesName k a x v f f') ey h))
-
-  pub conflict_at : settlement_of a x y ≡ Conflict → settlement_of a' x' y' ≡ Conflict
-  conflict_at h = subst (λ v. settlement_of v x' y' ≡ Conflict) ea (subst (λ v. settlement_of a v y' ≡ Conflict) ex (subst (λ v. settlement_of a x v ≡ Conflict) ey h))
-
-pub on_true : (P Q : Type 0) (b : Bool) → b ≡ true → MatchBool b P Q → P
-on_true P Q true e h = h
-on_true P Q false e h = absurd (cc)
-
-pub on_false : (P Q : Type 0) (b : Bool) → b ≡ false → MatchBool b P Q → Q
-on_false P Q true e h = absurd (cc)
-on_false P Q false e h = h

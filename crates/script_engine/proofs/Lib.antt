@@ -1,4 +1,5 @@
 pub mod Comparisons
+pub mod FlushLaws
 pub mod Flushing
 pub mod Forms
 pub mod LinesLemmas

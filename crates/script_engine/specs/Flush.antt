@@ -1,12 +1,12 @@
 -- What a flush does: each name is decided by what the ancestor and the two sides hold there.
-use Rattle.std.specs.Prelude.{◌≡◌, ◌≢◌, ℕ, Bool, true, false, List, if◌then◌else◌, Option, None, Some}
+use Rattle.std.specs.Prelude.{◌≡◌, ℕ, Bool, true, false, List, if◌then◌else◌, Option, None, Some}
 use Rattle.std.specs.Option.{option_map}
 use Rattle.std.specs.FinMap as map
 use Rattle.std.specs.Str.{bytes_eq}
 use Rattle.sha2.specs.Sha256.{sha256}
 use Rattle.script_engine.specs.declared.flush.Settlement.{Settlement}
 use Rattle.script_engine.specs.declared.flush.Settlement.TheVariants.{Agreed, ToAlpha, ToBeta, Conflict}
-use Rattle.script_engine.specs.Names.{ByName}
+use Rattle.script_engine.specs.Names.{ByName, NameSet}
 use Rattle.script_engine.specs.World.{Files}
 
 -- two digests are the same, or there is none on either side
@@ -54,16 +54,19 @@ ancestor_after ToAlpha ancestor alpha beta = beta
 ancestor_after ToBeta ancestor alpha beta = alpha
 ancestor_after Conflict ancestor alpha beta = ancestor
 
--- some name is a conflict
-abbrev pub HasConflict : ByName (List ℕ) → Files → Files → Type 0
-HasConflict ancestor alpha beta = (name : List ℕ) × (settlement_at ancestor alpha beta name ≡ Conflict)
+-- whether a name that is decided so is a conflict
+abbrev pub is_conflict : Settlement → Bool
+is_conflict Conflict = true
+is_conflict Agreed = false
+is_conflict ToAlpha = false
+is_conflict ToBeta = false
 
--- no name is a conflict, and at every name the sides and the ancestor hold what the rule leaves there
-pub record Flushes (ancestor : ByName (List ℕ)) (alpha beta : Files) (ancestor' : ByName (List ℕ)) (alpha' beta' : Files) : Type 0 where
-  pub no_conflict : (name : List ℕ) → settlement_at ancestor alpha beta name ≢ Conflict
+-- at every name the sides and the ancestor hold what the rule leaves there, and the conflicts are the names that it calls so
+pub record Flushes (ancestor : ByName (List ℕ)) (alpha beta : Files) (ancestor' : ByName (List ℕ)) (alpha' beta' : Files) (conflicts : NameSet) : Type 0 where
   pub at_alpha : (name : List ℕ) → map.get alpha' name
       ≡ alpha_after (settlement_at ancestor alpha beta name) (map.get alpha name) (map.get beta name)
   pub at_beta : (name : List ℕ) → map.get beta' name
       ≡ beta_after (settlement_at ancestor alpha beta name) (map.get alpha name) (map.get beta name)
   pub at_ancestor : (name : List ℕ) → map.get ancestor' name
       ≡ ancestor_after (settlement_at ancestor alpha beta name) (map.get ancestor name) (digest_at alpha name) (digest_at beta name)
+  pub at_conflicts : (name : List ℕ) → map.contains_key conflicts name ≡ is_conflict (settlement_at ancestor alpha beta name)

@@ -1,5 +1,6 @@
 pub mod Flush
 pub mod Flushed
+pub mod Laws
 pub mod Names
 pub mod Replies
 pub mod Request

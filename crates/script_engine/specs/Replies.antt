@@ -5,6 +5,7 @@ use Rattle.std.specs.FinMap as map
 use Rattle.sha2.specs.Sha256.{sha256}
 use Rattle.entry_tree.specs.declared.atom.Atom.TheVariants.{Dir, File}
 use Rattle.entry_tree.specs.Atom.{spelling_of}
+use Rattle.script_engine.specs.Names.{NameSet}
 use Rattle.script_engine.specs.World.{Files}
 
 -- a line of output
@@ -21,10 +22,18 @@ edit_reply = output_line (codes "ok edit")
 abbrev pub create_reply : List ℕ
 create_reply = output_line (codes "ok create " ++ identifier)
 
--- the reply to the flush that was the session's cycle of this number
-abbrev pub flush_reply : ℕ → List ℕ
-flush_reply cycle =
-    output_line (codes "ok flush " ++ identifier ++ codes " cycle " ++ decimal cycle ++ codes " done conflicts 0 problems 0")
+-- the line of the session's cycle of this number, which met so many conflicts
+abbrev pub cycle_line : ℕ → ℕ → List ℕ
+cycle_line cycle conflicts =
+    output_line (codes "ok flush " ++ identifier ++ codes " cycle " ++ decimal cycle ++ codes " done conflicts " ++ decimal conflicts ++ codes " problems 0")
+
+-- the line of a conflict: both sides have changed, each at the one name
+abbrev pub conflict_line : List ℕ → List ℕ
+conflict_line name = output_line (codes "  conflict " ++ name ++ codes " both alpha 1 beta 1")
+
+-- the reply to the flush that was the session's cycle of this number: the conflicts that it met, in the order of their names
+abbrev pub flush_reply : ℕ → NameSet → List ℕ
+flush_reply cycle conflicts = cycle_line cycle (map.len conflicts) ++ flat_map conflict_line (map.keys conflicts)
 
 -- one file of a root
 abbrev pub file_line : (List ℕ) × (List ℕ) → List ℕ

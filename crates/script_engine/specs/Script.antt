@@ -1,5 +1,5 @@
 -- The meaning of a script: a fold over its lines.
-use Rattle.std.specs.Prelude.{◌≡◌, ◌⊎◌, ℕ, ◌+◌, ◌-◌, ◌^◌, min, Bool, ◌||◌, nat_le, List, [], ◌∷◌, ◌++◌, length, if◌then◌else◌, Option, None, Some, MatchOption, MatchBool}
+use Rattle.std.specs.Prelude.{◌≡◌, ℕ, ◌+◌, ◌-◌, ◌^◌, min, Bool, ◌||◌, nat_le, List, [], ◌∷◌, ◌++◌, length, if◌then◌else◌, Option, None, Some, MatchOption, MatchBool}
 use Rattle.std.specs.FinMap as map
 use Rattle.std.specs.Str.{bytes_eq}
 use Rattle.script_engine.specs.declared.flat_roots.RootName.{RootName}
@@ -8,7 +8,8 @@ use Rattle.script_engine.specs.declared.request.Request.{Request}
 use Rattle.script_engine.specs.declared.request.Request.TheVariants.{Put, Create, Flush, Show}
 use Rattle.script_engine.specs.Request.{request_of}
 use Rattle.script_engine.specs.World.{World, root_named, other_root, files_of, with_files}
-use Rattle.script_engine.specs.Flush.{Flushes, HasConflict}
+use Rattle.script_engine.specs.Names.{NameSet}
+use Rattle.script_engine.specs.Flush.{Flushes}
 use Rattle.script_engine.specs.Replies.{edit_reply, create_reply, flush_reply, show_reply, no_root_reply, no_session_reply, not_yet_reply, identifier}
 
 -- the line is answered by this reply, and nothing changes
@@ -44,29 +45,24 @@ is_called session word = bytes_eq word session.name || bytes_eq word identifier
 abbrev pub next_cycle : ℕ → ℕ
 next_cycle cycles = min (cycles + 1) (2 ^ 64 - 1)
 
--- a cycle of the session: refused where a name is a conflict, else every name is settled
+-- a cycle of the session: every name is settled, and the reply tells the conflicts
 pub record Cycles (old : World) (session : Session) (reply : List ℕ) (new : World) : Type 0 where
   pub after : Session
-  pub reply_is : reply ≡ flush_reply after.cycles
+  pub conflicts : NameSet
+  pub reply_is : reply ≡ flush_reply after.cycles conflicts
   pub session_is : new.session ≡ Some after
   pub name_stays : after.name ≡ session.name
   pub alpha_stays : after.alpha ≡ session.alpha
   pub counted : after.cycles ≡ next_cycle session.cycles
   pub settled : Flushes session.ancestor (files_of old.roots session.alpha) (files_of old.roots (other_root session.alpha))
-      after.ancestor (files_of new.roots session.alpha) (files_of new.roots (other_root session.alpha))
-
-abbrev pub FlushesSession : World → Session → List ℕ → World → Type 0
-FlushesSession old session reply new =
-    (HasConflict session.ancestor (files_of old.roots session.alpha) (files_of old.roots (other_root session.alpha))
-    × Refuses old not_yet_reply reply new)
-    ⊎ Cycles old session reply new
+      after.ancestor (files_of new.roots session.alpha) (files_of new.roots (other_root session.alpha)) conflicts
 
 -- `sync flush SESSION`
 abbrev pub AnswersFlush : World → List ℕ → List ℕ → World → Type 0
 AnswersFlush old word reply new = MatchOption old.session
     (Refuses old no_session_reply reply new)
     (λ session. MatchBool (is_called session word)
-    (FlushesSession old session reply new)
+    (Cycles old session reply new)
     (Refuses old no_session_reply reply new))
 
 -- `show ROOT`

@@ -1,9 +1,8 @@
 //! A flush: each name is decided by what the ancestor and the two sides hold there.
-ghost use Rattle.std.specs.Prelude.{◌≡◌, IfOk, OnOk, MatchBool, MatchOption};
+ghost use Rattle.std.specs.Prelude.{◌≡◌, IfOk, OnOk};
 ghost use Rattle.std.specs.Option.{option_copied};
-ghost use Rattle.script_engine.specs.declared.flush.Settlement.TheVariants.{Conflict};
-ghost use Rattle.script_engine.specs.Flush.{is_same, settle, HasConflict, Flushes};
-ghost use Rattle.script_engine.specs.Flushed.{noted, digest_of, settlement_of, SettlesName};
+ghost use Rattle.script_engine.specs.Flush.{is_same, settle, Flushes};
+ghost use Rattle.script_engine.specs.Flushed.{noted, digest_of, conflict_mark, SettlesName};
 
 use crate::name_map::NameMap;
 use crate::word::Contents;
@@ -20,16 +19,17 @@ pub enum Settlement {
     ToAlpha,
     /// Beta takes alpha's file.
     ToBeta,
-    /// Both sides have changed, and differ.
+    /// Both sides have changed, and differ: nothing is copied.
     Conflict,
 }
 
-/// What the two sides and the ancestor hold after a flush.
+/// What the two sides and the ancestor hold after a flush, and the names that are conflicts.
 #[derive(Drop)]
 pub(crate) struct Flushed {
     pub(crate) alpha: NameMap<Contents>,
     pub(crate) beta: NameMap<Contents>,
     pub(crate) ancestor: NameMap<Digest>,
+    pub(crate) conflicts: NameMap<()>,
 }
 
 /// How a name is decided at which the ancestor, alpha and beta hold files of these digests.
@@ -61,77 +61,72 @@ fn is_same(first: &Option<Digest>, second: &Option<Digest>) -> bool
     }
 }
 
-/// What the two sides and the ancestor hold after a flush from what they hold now. None where some
-/// name is a conflict.
+/// What the two sides and the ancestor hold after a flush from what they hold now, and the names
+/// that are conflicts.
 ///
-/// It takes memory for copies of the files that the sides hold then. It costs O(n log n) for n
-/// names, and reads each file once for its digest and once for each copy.
+/// It takes memory for copies of the files that the sides hold then, and for the names. It costs
+/// O(n log n) for n names, and reads each file once for its digest and once for each copy.
 pub(crate) fn flush(
     alloc: Global,
     ancestor: &NameMap<Digest>,
     alpha: &NameMap<Contents>,
     beta: &NameMap<Contents>,
-) -> Result<Option<Flushed>, AllocError>
-    ensures { IfOk result (λ flushed. MatchOption flushed
-        (HasConflict ancestor.now alpha.now beta.now)
-        (λ f. Flushes ancestor.now alpha.now beta.now f.ancestor f.alpha f.beta)) }
+) -> Result<Flushed, AllocError>
+    ensures { IfOk result (λ f. Flushes ancestor.now alpha.now beta.now f.ancestor f.alpha f.beta f.conflicts) }
 {
     let mut flushed = Flushed {
         alpha: NameMap::new(alloc),
         beta: NameMap::new(alloc),
         ancestor: NameMap::new(alloc),
+        conflicts: NameMap::new(alloc),
     };
     'alphas: for (name, contents) in alpha.iter() {
         let agreed = ancestor.get(name).copied();
-        if !settle_into(
+        settle_into(
             alloc,
             &mut flushed,
             name,
             agreed,
             Some(contents),
             beta.get(name),
-        )? {
-            return Ok(None);
-        }
+        )?;
     }
     'betas: for (name, contents) in beta.iter() {
         if alpha.get(name).is_some() {
             continue;
         }
         let agreed = ancestor.get(name).copied();
-        if !settle_into(alloc, &mut flushed, name, agreed, None, Some(contents))? {
-            return Ok(None);
-        }
+        settle_into(alloc, &mut flushed, name, agreed, None, Some(contents))?;
     }
-    Ok(Some(flushed))
+    Ok(flushed)
 }
 
-/// Notes what a flush leaves at a name at which the ancestor and the sides hold these. False where
+/// Notes what a flush leaves at a name at which the ancestor and the sides hold these, and whether
 /// the name is a conflict.
-fn settle_into<'a>(
+fn settle_into(
     alloc: Global,
     flushed: &mut Flushed,
     name: &Name,
     ancestor: Option<Digest>,
-    alpha: Option<&'a Contents>,
-    beta: Option<&'a Contents>,
-) -> Result<bool, AllocError>
-    ensures { IfOk result (λ settled. MatchBool settled
-        (SettlesName name.now ancestor (option_copied alpha.entry) (option_copied beta.entry) flushed.old flushed.new)
-        (settlement_of ancestor (option_copied alpha.entry) (option_copied beta.entry) ≡ Conflict)) }
+    alpha: Option<&Contents>,
+    beta: Option<&Contents>,
+) -> Result<(), AllocError>
+    ensures { OnOk result
+        (SettlesName name.now ancestor (option_copied alpha.entry) (option_copied beta.entry) flushed.old flushed.new) }
 {
     let alpha_digest = digest_of(alpha);
     let beta_digest = digest_of(beta);
-    let (alpha_file, beta_file, agreed) = match settle(&ancestor, &alpha_digest, &beta_digest) {
+    let settlement = settle(&ancestor, &alpha_digest, &beta_digest);
+    let (alpha_file, beta_file, agreed) = match settlement {
         Settlement::Agreed => (alpha, beta, alpha_digest),
         Settlement::ToAlpha => (beta, beta, beta_digest),
         Settlement::ToBeta => (alpha, alpha, alpha_digest),
-        Settlement::Conflict => return Ok(false),
+        Settlement::Conflict => (alpha, beta, ancestor),
     };
     note_file(alloc, &mut flushed.alpha, name, alpha_file)?;
     note_file(alloc, &mut flushed.beta, name, beta_file)?;
     note_digest(alloc, &mut flushed.ancestor, name, agreed)?;
-    Ok(true)
+    note_conflict(alloc, &mut flushed.conflicts, name, settlement)
 }
 
 /// The digest of a file.
@@ -177,6 +172,21 @@ fn note_digest(
     }
 }
 
+/// Notes the name where it is decided as a conflict.
+fn note_conflict(
+    alloc: Global,
+    conflicts: &mut NameMap<()>,
+    name: &Name,
+    settlement: Settlement,
+) -> Result<(), AllocError>
+    ensures { OnOk result (conflicts.new ≡ noted conflicts.old name.now (conflict_mark settlement)) }
+{
+    match settlement {
+        Settlement::Conflict => conflicts.insert(name.copy(alloc)?, ()),
+        Settlement::Agreed | Settlement::ToAlpha | Settlement::ToBeta => Ok(()),
+    }
+}
+
 #[cfg(test)]
 mod tests {
     use super::{Flushed, flush};
@@ -213,7 +223,7 @@ mod tests {
         Ok(())
     }
 
-    fn flush_of(alloc: Global, cases: &[Case]) -> Result<Option<Flushed>, Fail> {
+    fn flush_of(alloc: Global, cases: &[Case]) -> Result<Flushed, Fail> {
         let mut ancestor = NameMap::new(alloc);
         let mut alpha = NameMap::new(alloc);
         let mut beta = NameMap::new(alloc);
@@ -256,7 +266,8 @@ mod tests {
             ("changed at both", Y, X, X),
             ("held by neither", Y, None, None),
         ];
-        let flushed = flush_of(alloc, &cases)?.ok_or("a conflict")?;
+        let flushed = flush_of(alloc, &cases)?;
+        assert!(rt; flushed.conflicts.is_empty());
         for (text, _, alpha, beta) in cases {
             let name = Name::read(alloc, text)?;
             let after = if alpha.is_some() || beta.is_some() {
@@ -277,16 +288,29 @@ mod tests {
     #[test]
     fn files_that_changed_apart_are_a_conflict(rt: HostRuntime) -> Result<(), Fail> {
         let alloc = rt.alloc();
-        let agreed = ("agreed", X, X, X);
-        for conflict in [
+        let cases = [
             ("made", None, X, Y),
             ("changed", X, Y, Z),
-            ("removed", X, None, Y),
-        ] {
+            ("lost at alpha", X, None, Y),
+            ("lost at beta", X, Y, None),
+        ];
+        let flushed = flush_of(alloc, &cases)?;
+        let mut order = String::new(alloc);
+        for (name, _) in flushed.conflicts.iter() {
+            order.push_str(name.as_str())?;
+            order.push_str(", ")?;
+        }
+        assert_eq!(rt;
+            order.as_str(),
+            "changed, lost at alpha, lost at beta, made, "
+        );
+        for (text, agreed, alpha, beta) in cases {
+            let name = Name::read(alloc, text)?;
+            assert!(rt; has_file(&flushed.alpha, &name, alpha), "alpha: {text}");
+            assert!(rt; has_file(&flushed.beta, &name, beta), "beta: {text}");
             assert!(rt;
-                flush_of(alloc, &[agreed, conflict])?.is_none(),
-                "{}",
-                conflict.0
+                has_digest(&flushed.ancestor, &name, agreed),
+                "ancestor: {text}"
             );
         }
         Ok(())

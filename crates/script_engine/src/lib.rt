@@ -7,6 +7,7 @@
 
 mod flat_roots;
 mod flush;
+mod laws;
 mod name_map;
 mod replies;
 mod request;
@@ -18,6 +19,10 @@ mod word;
 mod words;
 
 pub use flat_roots::{FlatRoots, RootName};
+pub use laws::{
+    a_flush_agrees_elsewhere, a_flush_leaves_conflicts, a_flush_takes_only_the_others,
+    a_second_flush_changes_no_root,
+};
 pub use name_map::NameMap;
 pub use script::run_script;
 pub use status::Status;

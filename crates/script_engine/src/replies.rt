@@ -25,11 +25,31 @@ pub fn create_reply(alloc: Global) -> Result<String, AllocError>
     format!(in alloc; "ok create {IDENTIFIER}\n")
 }
 
-/// The reply to a `sync flush` that was the session's cycle of this number.
-pub fn flush_reply(alloc: Global, cycle: u64) -> Result<String, AllocError>
-    ensures { IfOk result (λ text. string_bytes text ≡ reply.flush_reply cycle) }
+/// The reply to a `sync flush` that was the session's cycle of this number: the names that were
+/// conflicts, in the order of their bytes.
+pub fn flush_reply(alloc: Global, cycle: u64, conflicts: &NameMap<()>) -> Result<String, AllocError>
+    ensures { IfOk result (λ text. string_bytes text ≡ reply.flush_reply cycle conflicts.now) }
 {
-    format!(in alloc; "ok flush {IDENTIFIER} cycle {cycle} done conflicts 0 problems 0\n")
+    let mut text = cycle_line(alloc, cycle, conflicts.len())?;
+    for (name, _) in conflicts.iter() {
+        let line = conflict_line(alloc, name.as_str())?;
+        text.push_str(line.as_str())?;
+    }
+    Ok(text)
+}
+
+// The first line of the reply, for this many conflicts.
+fn cycle_line(alloc: Global, cycle: u64, conflicts: usize) -> Result<String, AllocError>
+    ensures { IfOk result (λ text. string_bytes text ≡ reply.cycle_line cycle conflicts) }
+{
+    format!(in alloc; "ok flush {IDENTIFIER} cycle {cycle} done conflicts {conflicts} problems 0\n")
+}
+
+// The line of one conflict.
+fn conflict_line(alloc: Global, name: &str) -> Result<String, AllocError>
+    ensures { IfOk result (λ text. string_bytes text ≡ reply.conflict_line name.now) }
+{
+    format!(in alloc; "  conflict {name} both alpha 1 beta 1\n")
 }
 
 /// The refusal of a line that names a root which isn't there.

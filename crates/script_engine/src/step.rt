@@ -4,7 +4,7 @@ ghost use Rattle.outside_io.specs.Lines.{IsLine};
 ghost use Rattle.script_engine.specs.declared.flat_roots.FlatRoots.{FlatRoots};
 ghost use Rattle.script_engine.specs.declared.session.Session.{Session};
 ghost use Rattle.script_engine.specs.World.{world_of};
-ghost use Rattle.script_engine.specs.Script.{Answers, AnswersRequest, AnswersFlush, Puts, Creates, Shows, FlushesSession, is_called};
+ghost use Rattle.script_engine.specs.Script.{Answers, AnswersRequest, AnswersFlush, Puts, Creates, Shows, Cycles, is_called};
 
 use crate::flat_roots::{FlatRoots, RootName};
 use crate::flush::flush;
@@ -162,17 +162,15 @@ fn is_called(session: &Session, word: &str) -> bool
 
 // One cycle of the session.
 fn cycle(alloc: Global, roots: &mut FlatRoots, session: &mut Session) -> Result<String, AllocError>
-    ensures answered { IfOk result (λ reply. FlushesSession (world_of roots.old (Some session.old)) session.old
+    ensures answered { IfOk result (λ reply. Cycles (world_of roots.old (Some session.old)) session.old
         (string_bytes reply) (world_of roots.new (Some session.new))) }
     ensures err { OnErr result ((roots.new ≡ roots.old) × (session.new ≡ session.old)) }
 {
     let alpha = roots.files(session.alpha);
     let beta = roots.files(session.alpha.other());
-    let Some(flushed) = flush(alloc, &session.ancestor, alpha, beta)? else {
-        return not_yet_reply(alloc);
-    };
+    let flushed = flush(alloc, &session.ancestor, alpha, beta)?;
     let cycles = session.cycles.saturating_add(1);
-    let reply = flush_reply(alloc, cycles)?;
+    let reply = flush_reply(alloc, cycles, &flushed.conflicts)?;
     roots.replace(session.alpha, flushed.alpha, flushed.beta);
     session.ancestor = flushed.ancestor;
     session.cycles = cycles;

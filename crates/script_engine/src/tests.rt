@@ -53,6 +53,27 @@ fn the_first_run(rt: HostRuntime) -> Result<(), Fail> {
 }
 
 #[test]
+fn a_file_that_both_sides_changed_is_a_conflict(rt: HostRuntime) -> Result<(), Fail> {
+    let alloc = rt.alloc();
+    let script = "edit A put a =abc\nsync create --name=s A B\nsync flush s\nshow B\n\
+        edit A put a =\nedit B put a =abcd\nsync flush s\nshow A\n";
+    let want = "ok edit\n\
+        ok create sync_00000000-0000-4000-8000-000000000000\n\
+        ok flush sync_00000000-0000-4000-8000-000000000000 cycle 1 done conflicts 0 problems 0\n\
+        ok show B 2\n  . dir\n  a file ba7816bf8f01cfea414140de5dae2223b00361a396177a9cb410ff61f20015ad\n\
+        ok edit\nok edit\n\
+        ok flush sync_00000000-0000-4000-8000-000000000000 cycle 2 done conflicts 1 problems 0\n  conflict a both alpha 1 beta 1\n\
+        ok show A 2\n  . dir\n  a file e3b0c44298fc1c149afbf4c8996fb92427ae41e4649b934ca495991b7852b855\n";
+    let mut roots = FlatRoots::two(alloc);
+    let (text, status) = output_over(alloc, &mut roots, &["script"], script)?;
+    assert_eq!(rt; text.as_str(), want);
+    assert_eq!(rt; status, Status::Ok);
+    let name = Name::read(alloc, "a")?;
+    assert_eq!(rt; roots.get("B", &name), Some(b"abcd".as_slice()));
+    Ok(())
+}
+
+#[test]
 fn other_words_read_and_write_nothing(rt: HostRuntime) -> Result<(), Fail> {
     let alloc = rt.alloc();
     let cases: [&[&str]; 5] = [
@@ -137,10 +158,20 @@ fn a_session_carries_files_both_ways(rt: HostRuntime) -> Result<(), Fail> {
             "edit A put a =abc\nedit B put a =abc\nsync create --name=s A B\nsync flush s\nedit A put a =\nsync flush s\nshow B\n",
             "ok edit\nok edit\ncycle 1\nok edit\ncycle 2\nok show B 2\n  . dir\n  a file e3b0c44298fc1c149afbf4c8996fb92427ae41e4649b934ca495991b7852b855\n",
         ),
-        // A conflict is refused, and nothing is carried.
+        // A conflict keeps no other name from being settled.
         (
             "edit A put a =abc\nedit B put a =\nedit A put b =\nsync create --name=s A B\nsync flush s\nshow B\n",
-            "ok edit\nok edit\nok edit\nrefused 39 not-yet\nok show B 2\n  . dir\n  a file e3b0c44298fc1c149afbf4c8996fb92427ae41e4649b934ca495991b7852b855\n",
+            "ok edit\nok edit\nok edit\ncycle 1 done conflicts 1 problems 0\n  conflict a both alpha 1 beta 1\n\
+             ok show B 3\n  . dir\n  a file e3b0c44298fc1c149afbf4c8996fb92427ae41e4649b934ca495991b7852b855\n  b file e3b0c44298fc1c149afbf4c8996fb92427ae41e4649b934ca495991b7852b855\n",
+        ),
+        // Conflicts are told in the order of their names, by each flush, until the sides agree.
+        (
+            "edit A put b =1\nedit A put a =1\nedit B put b =2\nedit B put a =2\nsync create --name=s A B\nsync flush s\n\
+             edit B put a =1\nsync flush s\nedit A put b =2\nsync flush s\n",
+            "ok edit\nok edit\nok edit\nok edit\n\
+             cycle 1 done conflicts 2 problems 0\n  conflict a both alpha 1 beta 1\n  conflict b both alpha 1 beta 1\n\
+             ok edit\ncycle 2 done conflicts 1 problems 0\n  conflict b both alpha 1 beta 1\n\
+             ok edit\ncycle 3\n",
         ),
         // A second session is refused, behind the roots' names; another session's name is none.
         (
