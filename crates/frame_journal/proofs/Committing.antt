@@ -1,0 +1,126 @@
+-- What the two steps of an append leave of a file.
+use Rattle.std.proofs.Common.{◌≡◌, ◌≢◌, ◌⊎◌, inl, inr, ℕ, zero, suc, ◌+◌, ◌-◌, ◌≤◌, ◌<◌, min, max, List, [], ◌∷◌, ◌++◌, length, take, drop, get_or, replicate, refl, ap, sym, subst, ◌∙◌, append_assoc, arith}
+use Rattle.std.proofs.lemmas.Bool.{cases_eq}
+use Rattle.std.proofs.lemmas.List.{length-append, take_all, drop_all, append-nil, take-append-drop, take_at, drop_at, drop_more}
+use Rattle.disk_model.specs.Content.{TornWrite, written_over}
+use Rattle.disk_model.specs.Overwriting.{written_some}
+use Rattle.frame_journal.specs.Layout.{block, frame, frames, IsPayload, ArePayloads, EndsShut, OpensWith, OpensWithOneMore, IsAtRest, IsStaged}
+use Rattle.frame_journal.proofs.Spelling.{length-block, length-frame}
+use Rattle.frame_journal.proofs.Found.{frames-push, fit-push}
+
+-- a write within the bytes leaves no gap
+no_gap : (old : List ℕ) (place : ℕ) (bytes : List ℕ) → 0 < length bytes → place ≤ length old → written_over old place bytes ≡ take place old ++ bytes ++ drop (place + length bytes) old
+no_gap old place bytes some inside =
+    let none : place - length old ≡ zero = omega arith in
+    written_some old place bytes some ∙ ap (λ k. take place old ++ replicate k 0 ++ bytes ++ drop (place + length bytes) old) none
+    ∙ ap (λ l. l ++ bytes ++ drop (place + length bytes) old) (append-nil (take place old))
+
+module _ (ps : List (List ℕ)) (place : ℕ) where
+  length-rest : (file : List ℕ) → IsAtRest ps place file → length file ≡ place + 1
+  length-rest file rest = omega (arith, ap length rest.split, length-append (frames ps) (rest.gate ∷ []), rest.at)
+
+  -- what is at rest opens with its frames
+  pub rest_opens : (file : List ℕ) → IsAtRest ps place file → OpensWith ps file
+  rest_opens file rest = inr (record { gate = rest.gate; rest = []; split = rest.split; shut = rest.shut; fit = rest.fit })
+
+  -- a block behind the gate, torn anyhow
+  pub behind_opens : (file image : List ℕ) (upto : ℕ) → IsAtRest ps place file → TornWrite (min (place + 1) (length file)) upto file image → OpensWith ps image
+  behind_opens file image upto rest torn =
+      let size = length-rest file rest in
+      let all : min (place + 1) (length file) ≡ length file = omega (arith, size) in
+      let front : take (length file) image ≡ file = ap (λ k. take k image) (sym all) ∙ torn.before ∙ take_all (min (place + 1) (length file)) file (omega (arith, size)) in
+      inr (record {
+        gate = rest.gate;
+        rest = drop (length file) image;
+        split = sym (take-append-drop (length file) image) ∙ ap (λ l. l ++ drop (length file) image) (front ∙ rest.split) ∙ append_assoc (frames ps) (rest.gate ∷ []) (drop (length file) image);
+        shut = rest.shut;
+        fit = rest.fit;
+      })
+
+  -- the same block, made
+  pub behind_staged : (file q : List ℕ) → IsAtRest ps place file → IsPayload q → IsStaged ps q place (written_over file (place + 1) (block q ++ 0 ∷ []))
+  behind_staged file q rest fits =
+      let bytes = block q ++ 0 ∷ [] in
+      let size = length-rest file rest in
+      let some : 0 < length bytes = omega (arith, length-append (block q) (0 ∷ [])) in
+      record {
+        gate = rest.gate;
+        split = no_gap file (place + 1) bytes some (omega (arith, size))
+            ∙ ap (λ l. l ++ bytes ++ drop (place + 1 + length bytes) file) (take_all (place + 1) file (omega (arith, size)) ∙ rest.split)
+            ∙ ap (λ l. frames ps ++ (rest.gate ∷ []) ++ bytes ++ l) (drop_all (place + 1 + length bytes) file (omega (arith, size)))
+            ∙ append-nil (frames ps ++ (rest.gate ∷ []) ++ bytes)
+            ∙ append_assoc (frames ps) (rest.gate ∷ []) bytes;
+        fit = rest.fit;
+        fits = fits;
+        at = rest.at;
+      }
+
+  module _ (q : List ℕ) where
+    abbrev end : List ℕ
+    end = block q ++ 0 ∷ []
+
+    gate_front : (file : List ℕ) → IsStaged ps q place file → take place file ≡ frames ps
+    gate_front file staged = ap (take place) staged.split ∙ take_at (frames ps) (staged.gate ∷ end) place (sym staged.at)
+
+    gate_behind : (file : List ℕ) → IsStaged ps q place file → drop (place + 1) file ≡ end
+    gate_behind file staged =
+        let at : length (frames ps ++ staged.gate ∷ []) ≡ place + 1 = omega (arith, length-append (frames ps) (staged.gate ∷ []), staged.at) in
+        ap (drop (place + 1)) (staged.split ∙ sym (append_assoc (frames ps) (staged.gate ∷ []) end)) ∙ drop_at (frames ps ++ staged.gate ∷ []) end (place + 1) at
+
+    pub gate_inside : (file : List ℕ) → IsStaged ps q place file → place < length file
+    gate_inside file staged = omega (arith, ap length staged.split, length-append (frames ps) (staged.gate ∷ end), staged.at)
+
+    -- the gate, torn anyhow
+    pub gate_staged : (file image : List ℕ) → IsStaged ps q place file → TornWrite (min place (length file)) (place + 1) file image → IsStaged ps q place image
+    gate_staged file image staged torn =
+        let inside = gate_inside file staged in
+        let at : min place (length file) ≡ place = omega (arith, inside) in
+        let front : take place image ≡ frames ps = subst (λ k. take k image ≡ take k file) at torn.before ∙ gate_front file staged in
+        let gate = get_or image place 0 in
+        let behind : drop place image ≡ gate ∷ end =
+        drop_more image place 0 (omega (arith, torn.no_shorter, inside)) ∙ ap (λ l. gate ∷ l) (torn.behind ∙ gate_behind file staged) in
+        record {
+          gate = gate;
+          split = sym (take-append-drop place image) ∙ ap (λ l. l ++ drop place image) front ∙ ap (λ l. frames ps ++ l) behind;
+          fit = staged.fit;
+          fits = staged.fits;
+          at = staged.at;
+        }
+
+    gate_written : (file : List ℕ) (byte : ℕ) → IsStaged ps q place file → written_over file place (byte ∷ []) ≡ frames ps ++ byte ∷ end
+    gate_written file byte staged =
+        let inside = gate_inside file staged in
+        no_gap file place (byte ∷ []) (omega arith) (omega (arith, inside))
+        ∙ ap (λ l. l ++ (byte ∷ []) ++ drop (place + 1) file) (gate_front file staged)
+        ∙ ap (λ l. frames ps ++ (byte ∷ []) ++ l) (gate_behind file staged)
+        ∙ append_assoc (frames ps) (byte ∷ []) end
+
+    one_more : frames ps ++ 1 ∷ end ≡ frames (ps ++ q ∷ []) ++ 0 ∷ []
+    one_more = sym (append_assoc (frames ps) (frame q) (0 ∷ [])) ∙ ap (λ l. l ++ 0 ∷ []) (sym (frames-push ps q))
+
+    -- the frame counts or it doesn't
+    pub staged_opens : (file : List ℕ) → IsStaged ps q place file → OpensWithOneMore ps q file
+    staged_opens file staged = elim (cases_eq staged.gate 1) [
+      | inl open_gate ↦ inr (inr (record {
+        gate = 0;
+        rest = [];
+        split = staged.split ∙ ap (λ k. frames ps ++ k ∷ end) open_gate ∙ one_more;
+        shut = omega arith;
+        fit = fit-push ps q staged.fit staged.fits;
+      }))
+      | inr shut ↦ inl (inr (record { gate = staged.gate; rest = end; split = staged.split; shut = shut; fit = staged.fit }))
+    ]
+
+    -- the gate, opened
+    pub gate_rests : (file : List ℕ) → IsStaged ps q place file → IsAtRest (ps ++ q ∷ []) (place + (9 + length q)) (written_over file place (1 ∷ []))
+    gate_rests file staged = record {
+      gate = 0;
+      split = gate_written file 1 staged ∙ one_more;
+      shut = omega arith;
+      fit = fit-push ps q staged.fit staged.fits;
+      at = omega (arith, staged.at, ap length (frames-push ps q), length-append (frames ps) (frame q), length-frame q);
+    }
+
+    -- the gate, shut again
+    pub gate_shut : (file : List ℕ) → IsStaged ps q place file → OpensWith ps (written_over file place (0 ∷ []))
+    gate_shut file staged = inr (record { gate = 0; rest = end; split = gate_written file 0 staged; shut = omega arith; fit = staged.fit })

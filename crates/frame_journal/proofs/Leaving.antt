@@ -1,0 +1,92 @@
+-- What crashes leave after one device call more.
+use Rattle.std.proofs.Common.{◌≡◌, inl, inr, ℕ, ◌+◌, ◌≤◌, min, List, [], ◌∷◌, ◌++◌, length, take, refl, ap, sym, subst, ◌∙◌, arith}
+use Rattle.std.specs.List.{AllByRecursion}
+use Rattle.disk_model.specs.Content.{Content, Change, Tears, LeavesOnly, MayLeave, written_over, settled, changed, write_change, cut_change}
+use Rattle.disk_model.specs.Disk.{OnTold, Syncs, FailsInPart}
+use Rattle.disk_model.specs.Moments.{LeavesAfter}
+use Rattle.disk_model.specs.Overwriting.{written_tears, cut_tears}
+use Rattle.frame_journal.specs.Steps.{WritesSynced, CutsSynced}
+
+-- what a crash leaves of a content of which all is made sure, after one change
+abbrev pub TearsInto : Change → List ℕ → (List ℕ → Type 0) → Type 0
+TearsInto change bytes P = (image : List ℕ) → Tears change bytes image → P image
+
+-- a change, made in any part, leaves only what has P, and reads then give such bytes
+abbrev pub IsReady : (Content → Change) → (List ℕ → Type 0) → Content → Type 0
+IsReady change P now = (bytes : List ℕ) → Tears (change now) now.bytes bytes → LeavesOnly (changed now (change now) bytes) P × P bytes
+
+pub settled_leaves : (bytes : List ℕ) (P : List ℕ → Type 0) → P bytes → LeavesOnly (settled bytes) P
+settled_leaves bytes P here image is = subst P (sym is) here
+
+pub changed_leaves : (now : Content) (change : Change) (bytes : List ℕ) (P : List ℕ → Type 0) → now ≡ settled now.bytes → TearsInto change now.bytes P → LeavesOnly (changed now change bytes) P
+changed_leaves now change bytes P is tears image left =
+    let before : left.0 ≡ now.bytes = subst (λ (n : Content). MayLeave n left.0) is left.1 in
+    tears image (subst (λ b. Tears change b image) before left.2)
+
+-- where all is made sure of, it is enough to know how the change tears
+pub ready_from : (change : Content → Change) (P : List ℕ → Type 0) (now : Content) → now ≡ settled now.bytes → TearsInto (change now) now.bytes P → IsReady change P now
+ready_from change P now is tears bytes torn = (changed_leaves now (change now) bytes P is tears, tears bytes torn)
+
+-- no call was made
+pub same_leaves : (old new : List Content) (P : List ℕ → Type 0) → new ≡ old → LeavesAfter old new P
+same_leaves old new P is = record { later = []; goes_on = is; each = tt }
+
+more_leaves : (old mid new : List Content) (P : List ℕ → Type 0) (now : Content) → LeavesAfter old mid P → LeavesOnly now P → new ≡ now ∷ mid → LeavesAfter old new P
+more_leaves old mid new P now so_far here is = record {
+  later = now ∷ so_far.later;
+  goes_on = is ∙ ap (λ l. now ∷ l) so_far.goes_on;
+  each = (here, so_far.each);
+}
+
+-- a sync
+pub then_syncs : (old mid new : List Content) (P : List ℕ → Type 0) → LeavesAfter old mid P → OnTold mid (λ now. P now.bytes) → Syncs mid new → LeavesAfter old new P
+then_syncs old [] new P so_far here is = subst (λ l. LeavesAfter old l P) (sym is) so_far
+then_syncs old (now ∷ past) new P so_far here is = more_leaves old (now ∷ past) new P (settled now.bytes) so_far (settled_leaves now.bytes P here) is
+
+-- a change that failed
+pub then_fails : (old mid new : List Content) (change : Content → Change) (P : List ℕ → Type 0) → LeavesAfter old mid P → OnTold mid (IsReady change P) → FailsInPart change mid new → LeavesAfter old new P
+then_fails old [] new change P so_far ready is = subst (λ l. LeavesAfter old l P) (sym is) so_far
+then_fails old (now ∷ past) new change P so_far ready (inl is) = subst (λ l. LeavesAfter old l P) (sym is) so_far
+then_fails old (now ∷ past) new change P so_far ready (inr made) =
+    more_leaves old (now ∷ past) new P (changed now (change now) made.0) so_far (ready made.0 made.1).0 made.2
+
+two_more : (old mid new : List Content) (P : List ℕ → Type 0) (now : Content) (change : Content → Change) (bytes : List ℕ) → LeavesAfter old mid P → IsReady change P now → Tears (change now) now.bytes bytes
+    → new ≡ settled bytes ∷ changed now (change now) bytes ∷ mid → LeavesAfter old new P
+two_more old mid new P now change bytes so_far ready made news =
+    more_leaves old (changed now (change now) bytes ∷ mid) new P (settled bytes)
+    (more_leaves old mid (changed now (change now) bytes ∷ mid) P (changed now (change now) bytes) so_far (ready bytes made).0 refl)
+    (settled_leaves bytes P (ready bytes made).1) news
+
+-- a write, and a sync behind it
+pub then_writes : (old mid new : List Content) (place : ℕ) (bytes : List ℕ) (P : List ℕ → Type 0) → LeavesAfter old mid P → OnTold mid (IsReady (write_change place (length bytes)) P) → WritesSynced place bytes mid new → LeavesAfter old new P
+then_writes old [] new place bytes P so_far ready is = subst (λ l. LeavesAfter old l P) (sym is) so_far
+then_writes old (now ∷ past) new place bytes P so_far ready is =
+    two_more old (now ∷ past) new P now (write_change place (length bytes)) (written_over now.bytes place bytes) so_far ready
+    (written_tears now.bytes place (length bytes) bytes (omega arith)) is
+
+-- a cut, and a sync behind it
+pub then_cuts : (old mid new : List Content) (n : ℕ) (P : List ℕ → Type 0) → LeavesAfter old mid P → OnTold mid (IsReady (cut_change n) P) → CutsSynced n mid new → LeavesAfter old new P
+then_cuts old [] new n P so_far ready is = subst (λ l. LeavesAfter old l P) (sym is) so_far
+then_cuts old (now ∷ past) new n P so_far ready is =
+    two_more old (now ∷ past) new P now (cut_change n) (take n now.bytes) so_far ready (cut_tears n now.bytes) is
+
+-- after a change that failed, a crash leaves what has P, if it did before
+pub now_failed : (old new : List Content) (change : Content → Change) (P : List ℕ → Type 0) → OnTold old (λ now. LeavesOnly now P) → OnTold old (IsReady change P) → FailsInPart change old new → OnTold new (λ now. LeavesOnly now P)
+now_failed [] new change P here ready is = subst (λ l. OnTold l (λ now. LeavesOnly now P)) (sym is) tt
+now_failed (now ∷ past) new change P here ready (inl is) = subst (λ l. OnTold l (λ k. LeavesOnly k P)) (sym is) here
+now_failed (now ∷ past) new change P here ready (inr made) = subst (λ l. OnTold l (λ k. LeavesOnly k P)) (sym made.2) (ready made.0 made.1).0
+
+-- after a sync, all is made sure of
+pub now_synced : (old new : List Content) (Q : List ℕ → Type 0) → Syncs old new → OnTold old (λ now. Q now.bytes) → OnTold new (λ now. (now ≡ settled now.bytes) × Q now.bytes)
+now_synced [] new Q is here = subst (λ l. OnTold l (λ now. (now ≡ settled now.bytes) × Q now.bytes)) (sym is) tt
+now_synced (now ∷ past) new Q is here = subst (λ l. OnTold l (λ n. (n ≡ settled n.bytes) × Q n.bytes)) (sym is) (refl, here)
+
+-- after a cut with its sync
+pub now_cut : (old new : List Content) (n : ℕ) (Q : List ℕ → Type 0) → CutsSynced n old new → OnTold old (λ now. Q (take n now.bytes)) → OnTold new (λ now. (now ≡ settled now.bytes) × Q now.bytes)
+now_cut [] new n Q is here = subst (λ l. OnTold l (λ now. (now ≡ settled now.bytes) × Q now.bytes)) (sym is) tt
+now_cut (now ∷ past) new n Q is here = subst (λ l. OnTold l (λ k. (k ≡ settled k.bytes) × Q k.bytes)) (sym is) (refl, here)
+
+-- after a write with its sync
+pub now_written : (old new : List Content) (place : ℕ) (bytes : List ℕ) (Q : List ℕ → Type 0) → WritesSynced place bytes old new → OnTold old (λ now. Q (written_over now.bytes place bytes)) → OnTold new (λ now. (now ≡ settled now.bytes) × Q now.bytes)
+now_written [] new place bytes Q is here = subst (λ l. OnTold l (λ now. (now ≡ settled now.bytes) × Q now.bytes)) (sym is) tt
+now_written (now ∷ past) new place bytes Q is here = subst (λ l. OnTold l (λ k. (k ≡ settled k.bytes) × Q k.bytes)) (sym is) (refl, here)

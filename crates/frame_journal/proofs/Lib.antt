@@ -1,0 +1,11 @@
+pub mod Appending
+pub mod Committing
+pub mod Found
+pub mod Laws
+pub mod Leaving
+pub mod Reopening
+pub mod Repairing
+pub mod Settled
+pub mod Shutting
+pub mod Spelling
+pub mod Told
