@@ -1,1 +1,5 @@
+pub mod Buffer
 pub mod Name
+pub mod Path
+pub mod PathOrder
+pub mod PathText

@@ -1,14 +1,24 @@
-//! The names of the entries of a folder.
+//! The names of the entries of a folder, and the paths that they make.
 //!
 //! A [`Name`] is one component of a path: 1 to 255 bytes of UTF-8, without `/`, without a byte below 0x20, and neither `.` nor `..`.
 //! Contracts see a name as its bytes, and `is_name` of `specs/Name.antt` tests which bytes make one.
 //! Names are ordered by their bytes, so that a `BTreeMap<Name, V>` has its entries in that order.
+//!
+//! A [`Path`] is a list of at most 64 names whose text has at most 4,096 bytes, and the root has none. Contracts see
+//! a path as the list of its names (`specs/Path.antt`). A `BTreeMap<Path, V>` has its entries in path order, in which
+//! what lies at and below a path stands together.
 #![tactic(auto)]
 
+pub mod laws;
 mod name;
+mod names;
+mod path;
 mod path_error;
+mod reading;
 
 pub use name::Name;
+pub use names::Names;
+pub use path::Path;
 pub use path_error::{BadPath, PathError};
 
 #[cfg(test)]

@@ -52,6 +52,17 @@ impl Name {
         }
     }
 
+    // The name of this text, which is one.
+    pub(crate) fn of(alloc: Global, text: &str) -> Result<Name, AllocError>
+        requires { IsName text.now }
+        ensures { IfOk result (λ name. name ≡ text.now) }
+    {
+        match String::from_str(alloc, text) {
+            Ok(text) => Ok(Name { text }),
+            Err(error) => Err(error),
+        }
+    }
+
     /// The text of the name.
     pub fn as_str(&self) -> &str
         ensures value { result.now ≡ self.now }
@@ -72,7 +83,7 @@ impl Name {
 }
 
 // Whether the text is a name.
-fn is_name(text: &str) -> bool
+pub(crate) fn is_name(text: &str) -> bool
     ensures { result ≡ is_name text.now }
 {
     let bytes = text.as_bytes();

@@ -8,6 +8,8 @@ use std::alloc::{AllocError, Global};
 use std::collections::BTreeMap;
 use std::test::Fail;
 
+mod paths;
+
 // A map's contract at a name: the value at the name's bytes, in the order of bytes.
 fn count_at(counts: &BTreeMap<Name, u8>, name: &Name) -> Option<u8>
     ensures { result ≡ get (slice_cmp nat_cmp) counts.now name.now }

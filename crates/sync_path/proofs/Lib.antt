@@ -1,0 +1,7 @@
+pub mod Buffers
+pub mod BufferParts
+pub mod Lengths
+pub mod Ends
+pub mod TextParts
+pub mod Texts
+pub mod Intervals
