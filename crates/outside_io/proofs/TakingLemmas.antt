@@ -12,14 +12,6 @@ use Rattle.outside_io.specs.Taking.{CountsTaken, SkipsLine}
 use Rattle.outside_io.specs.Told.{WhereTold}
 use Rattle.outside_io.proofs.LinesLemmas.{lines-newline, lines-last, at_newline, length-strip_carriage_return}
 
--- what was held and then read is what is held now
-pub Keeps-read : (a b c : Option (List ℕ)) (held given now : List ℕ) → Keeps a (prepend_known held b) → Consumes b c given → now ≡ held ++ given → Keeps a (prepend_known now c)
-Keeps-read None b c held given now k h e = tt
-Keeps-read (Some x) None c held given now k h e = absurd k
-Keeps-read (Some x) (Some y) None held given now k h e = absurd h
-Keeps-read (Some x) (Some y) (Some z) held given now k h e =
-    ap (λ l. l ++ z) e ∙ append_assoc held given z ∙ ap (λ l. held ++ l) (sym h) ∙ k
-
 -- what was taken behind what was held
 pub Consumes-held : (a b c : Option (List ℕ)) (held part : List ℕ) → Keeps a (prepend_known held b) → Consumes b c part → Consumes a c (held ++ part)
 Consumes-held None b c held part k h = tt
@@ -95,14 +87,6 @@ TakesFirst-last Met (Some x) (Some y) None held given now answer none some ok k 
 TakesFirst-last Met (Some x) (Some y) (Some z) held given now answer none some ok k h nothing end e met =
     let is : x ≡ held = sym k ∙ ap (λ l. held ++ l) (h ∙ ap (λ l. l ++ z) nothing ∙ end) ∙ append-nil held in
     subst (λ (old : List ℕ). TakesFirst Met old (now ++ z) answer) (sym is) (last_line held (now ++ z) answer none some (ap (λ l. l ++ z) e ∙ end) ok met)
-
--- where nothing is held at the end, there was nothing to be read
-pub IsAtEnd-before : (first b c : Option (List ℕ)) (was held given : List ℕ) → Keeps (prepend_known was first) (prepend_known held b) → held ≡ [] → Consumes b c given → given ≡ [] → IsAtEnd c → was ≡ [] → IsAtEnd first
-IsAtEnd-before None b c was held given k none h nothing end empty = tt
-IsAtEnd-before (Some x) None c was held given k none h nothing end empty = absurd k
-IsAtEnd-before (Some x) (Some y) None was held given k none h nothing end empty = absurd h
-IsAtEnd-before (Some x) (Some y) (Some z) was held given k none h nothing end empty =
-    sym (ap (λ l. l ++ x) empty) ∙ sym k ∙ ap (λ l. l ++ y) none ∙ h ∙ ap (λ l. l ++ z) nothing ∙ end
 
 -- what follows from what is known of the value in a `Some`
 pub IfSome-from_match : {X : Type 0} (P : Type 0) (Q R : X → Type 0) (r : Option X) → MatchOption r P Q → ((x : X) → Q x → R x) → IfSome r R

@@ -14,6 +14,10 @@ HasNoNewline bytes = All (λ b. b ≢ 10) bytes
 abbrev pub EndsWithNewline : List ℕ → Type 0
 EndsWithNewline bytes = (front : List ℕ) × (bytes ≡ front ++ 10 ∷ [])
 
+-- no bytes, or bytes of which the last one ends a line
+abbrev pub IsWholeLines : List ℕ → Type 0
+IsWholeLines bytes = (bytes ≡ []) ⊎ EndsWithNewline bytes
+
 -- what is answered for a line of these bytes: all of them, or only that there are more than 65,536
 abbrev pub IsLine : List ℕ → Line → Type 0
 IsLine bytes (Full v) = (v.items ≡ bytes) × (length bytes ≤ 65536)

@@ -1,11 +1,11 @@
 -- What a flush does at one name, case by case, and what each flush of a run keeps to.
-use Rattle.std.proofs.Common.{◌≡◌, ◌≢◌, ◌⊎◌, inl, inr, ℕ, Bool, true, false, List, [], ◌∷◌, Option, None, Some, refl, sym, ap, subst, ◌∙◌, if◌then◌else◌, Decides, MatchOption, MatchBool}
+use Rattle.std.proofs.Common.{◌≡◌, ◌≢◌, ◌⊎◌, inl, inr, ℕ, Bool, true, false, List, [], ◌∷◌, Option, None, Some, refl, sym, ap, subst, ◌∙◌, if◌then◌else◌, Decides, MatchBool}
 use Rattle.std.specs.FinMap as map
-use Rattle.std.specs.Option.{option_map}
 use Rattle.std.specs.Cmp.Lexicographic.{nat_list_cmp_total}
+use Rattle.std.proofs.lemmas.Bool.{MatchBool-at_true}
 use Rattle.std.proofs.lemmas.Map.Lookups.{exact_bytes}
+use Rattle.std.proofs.lemmas.Option.{MatchOption-at_some}
 use Rattle.std.proofs.lemmas.Slice.Eq.{bytes_eq-Decides}
-use Rattle.sha2.specs.Sha256.{sha256}
 use Rattle.script_engine.specs.declared.flat_roots.FlatRoots.{FlatRoots}
 use Rattle.script_engine.specs.declared.flat_roots.RootName.{RootName}
 use Rattle.script_engine.specs.declared.flat_roots.RootName.TheVariants.{A, B}
@@ -13,9 +13,8 @@ use Rattle.script_engine.specs.declared.flush.Settlement.{Settlement}
 use Rattle.script_engine.specs.declared.flush.Settlement.TheVariants.{Agreed, ToAlpha, ToBeta, Conflict}
 use Rattle.script_engine.specs.declared.session.Session.{Session}
 use Rattle.script_engine.specs.World.{World, other_root, files_of}
-use Rattle.script_engine.specs.Flush.{is_same, settle, alpha_after, beta_after, ancestor_after}
-use Rattle.script_engine.specs.Flushed.{digest_of}
-use Rattle.script_engine.specs.Script.{Answers, AnswersRequest, Refuses, Cycles, Runs, is_called, line_request}
+use Rattle.script_engine.specs.Flush.{is_same, settle, digest_of, alpha_after, beta_after, ancestor_after}
+use Rattle.script_engine.specs.Script.{Answers, AnswersRequest, Refuses, Cycles, Runs, is_called}
 use Rattle.script_engine.specs.Replies.{no_session_reply, not_yet_reply}
 use Rattle.script_engine.specs.Laws.{file_at, root_digest, IsFlushOf, EachFlush, EveryFlush, KeepsOrTakes, TakesOnlyTheOthers, IsConflict, AgreesElsewhere, LeavesConflicts, IsLasting}
 
@@ -193,30 +192,24 @@ second_changes_none old session reply mid c again new d =
 
 -- ---- the flushes of a run
 
-on_some : {X : Type 0} (P : Type 0) (Q : X → Type 0) (o : Option X) (x : X) → o ≡ Some x → MatchOption o P Q → Q x
-on_some P Q o x e h = subst (λ o. MatchOption o P Q) e h
-
-on_true : (P Q : Type 0) (b : Bool) → b ≡ true → MatchBool b P Q → P
-on_true P Q b e h = subst (λ b. MatchBool b P Q) e h
-
 -- a flush that names the session is a cycle of it
 flush_cycles : (old : World) (session : Session) (line reply : List ℕ) (new : World) → old.session ≡ Some session → IsFlushOf line session
     → Answers old line reply new → Cycles old session reply new
 flush_cycles old session [] reply new is flush h = absurd (let e = flush.1 in cc)
 flush_cycles old session (byte ∷ bytes) reply new is flush h =
-    let request = on_some (Refuses old not_yet_reply reply new) (λ request. AnswersRequest old request reply new) (line_request (byte ∷ bytes)) _ flush.1 h in
-    let called = on_some (Refuses old no_session_reply reply new)
-    (λ session. MatchBool (is_called session flush.0) (Cycles old session reply new) (Refuses old no_session_reply reply new)) old.session session is request in
-    on_true (Cycles old session reply new) (Refuses old no_session_reply reply new) (is_called session flush.0) flush.2 called
+    let request = MatchOption-at_some (Refuses old not_yet_reply reply new) (λ request. AnswersRequest old request reply new) _ flush.1 h in
+    let called = MatchOption-at_some (Refuses old no_session_reply reply new)
+    (λ session. MatchBool (is_called session flush.0) (Cycles old session reply new) (Refuses old no_session_reply reply new)) session is request in
+    MatchBool-at_true (Cycles old session reply new) (Refuses old no_session_reply reply new) flush.2 called
 
 module _ (Law : World → Session → World → Session → Type 0) (keeps : (old : World) (session : Session) (reply : List ℕ) (new : World) (c : Cycles old session reply new) → Law old session new c.after) where
   every_flush : (old : World) (lines : List (List ℕ)) (text : List ℕ) (new : World) (ran : Runs old lines text new) → EachFlush Law old lines text new ran
   every_flush old [] text new ran = tt
-  every_flush old (line ∷ lines) text new ran = (
+  every_flush old (line ∷ lines) text new (reply, mid, rest, answered, written, ran) = (
     λ session is flush.
-        (let c = flush_cycles old session line ran.0 ran.1 is flush ran.3 in
-        (c.after, c.session_is, keeps old session ran.0 ran.1 c)),
-    every_flush ran.1 lines ran.2 new ran.5,
+        (let c = flush_cycles old session line reply mid is flush answered in
+        (c.after, c.session_is, keeps old session reply mid c)),
+    every_flush mid lines rest new ran,
   )
 
 pub every_takes : EveryFlush TakesOnlyTheOthers

@@ -16,7 +16,7 @@ use Rattle.script_engine.specs.Flush.{Flushes, settlement_at, digest_at, alpha_a
 use Rattle.script_engine.specs.Flushed.{noted, conflict_mark, SettlesName}
 
 -- the names gone over are settled, and the others hold nothing yet
-pub record Progress (gone : List ℕ → Bool) (ancestor : ByName (List ℕ)) (alpha beta : Files) (f : Flushed) : Type 0 where
+pub record HasSettled (gone : List ℕ → Bool) (ancestor : ByName (List ℕ)) (alpha beta : Files) (f : Flushed) : Type 0 where
   pub at_alpha : (q : List ℕ) → map.get f.alpha q
       ≡ cond (gone q) (alpha_after (settlement_at ancestor alpha beta q) (map.get alpha q) (map.get beta q)) None
   pub at_beta : (q : List ℕ) → map.get f.beta q
@@ -62,26 +62,26 @@ as_before : {X : Type 0} (g g' : Bool) (x after : Option X) → x ≡ cond g aft
 as_before g g' x after e h = e ∙ ap (λ b. cond b after None) (sym h)
 
 module _ {ancestor : ByName (List ℕ)} {alpha beta : Files} where
-  pub progress_none : (gone : List ℕ → Bool) (f : Flushed) → ((q : List ℕ) → gone q ≡ false)
-      → f.alpha ≡ map.empty → f.beta ≡ map.empty → f.ancestor ≡ map.empty → f.conflicts ≡ map.empty → Progress gone ancestor alpha beta f
-  progress_none gone f none a b c d = record {
+  pub settled_none : (gone : List ℕ → Bool) (f : Flushed) → ((q : List ℕ) → gone q ≡ false)
+      → f.alpha ≡ map.empty → f.beta ≡ map.empty → f.ancestor ≡ map.empty → f.conflicts ≡ map.empty → HasSettled gone ancestor alpha beta f
+  settled_none gone f none a b c d = record {
     at_alpha = λ q. none_yet _ _ _ (ap (λ m. map.get m q) a ∙ map.get-empty name_cmp q) (none q);
     at_beta = λ q. none_yet _ _ _ (ap (λ m. map.get m q) b ∙ map.get-empty name_cmp q) (none q);
     at_ancestor = λ q. none_yet _ _ _ (ap (λ m. map.get m q) c ∙ map.get-empty name_cmp q) (none q);
     at_conflicts = λ q. none_yet _ _ _ (ap (λ m. map.get m q) d ∙ map.get-empty name_cmp q) (none q);
   }
 
-  pub progress_same : (gone gone' : List ℕ → Bool) (f : Flushed) → ((q : List ℕ) → gone' q ≡ gone q) → Progress gone ancestor alpha beta f → Progress gone' ancestor alpha beta f
-  progress_same gone gone' f same p = record {
+  pub settled_same : (gone gone' : List ℕ → Bool) (f : Flushed) → ((q : List ℕ) → gone' q ≡ gone q) → HasSettled gone ancestor alpha beta f → HasSettled gone' ancestor alpha beta f
+  settled_same gone gone' f same p = record {
     at_alpha = λ q. as_before _ _ _ _ (p.at_alpha q) (same q);
     at_beta = λ q. as_before _ _ _ _ (p.at_beta q) (same q);
     at_ancestor = λ q. as_before _ _ _ _ (p.at_ancestor q) (same q);
     at_conflicts = λ q. as_before _ _ _ _ (p.at_conflicts q) (same q);
   }
 
-  pub progress_more : (gone gone' : List ℕ → Bool) (f f' : Flushed) (k : List ℕ) → gone k ≡ false → ((q : List ℕ) → gone' q ≡ (gone q || eq_by_cmp name_cmp q k))
-      → Progress gone ancestor alpha beta f → SettlesName k (map.get ancestor k) (map.get alpha k) (map.get beta k) f f' → Progress gone' ancestor alpha beta f'
-  progress_more gone gone' f f' k new more p s = record {
+  pub settled_more : (gone gone' : List ℕ → Bool) (f f' : Flushed) (k : List ℕ) → gone k ≡ false → ((q : List ℕ) → gone' q ≡ (gone q || eq_by_cmp name_cmp q k))
+      → HasSettled gone ancestor alpha beta f → SettlesName k (map.get ancestor k) (map.get alpha k) (map.get beta k) f f' → HasSettled gone' ancestor alpha beta f'
+  settled_more gone gone' f f' k new more p s = record {
     at_alpha = noted_more gone gone' k new more (λ q. alpha_after (settlement_at ancestor alpha beta q) (map.get alpha q) (map.get beta q)) f.alpha f'.alpha p.at_alpha s.alpha_noted;
     at_beta = noted_more gone gone' k new more (λ q. beta_after (settlement_at ancestor alpha beta q) (map.get alpha q) (map.get beta q)) f.beta f'.beta p.at_beta s.beta_noted;
     at_ancestor = noted_more gone gone' k new more (λ q. ancestor_after (settlement_at ancestor alpha beta q) (map.get ancestor q) (digest_at alpha q) (digest_at beta q)) f.ancestor f'.ancestor p.at_ancestor s.ancestor_noted;
@@ -124,9 +124,9 @@ marked ToBeta = refl
 marked Conflict = refl
 
 module _ {ancestor : ByName (List ℕ)} {alpha beta : Files} where
-  pub progress_all : (gone : List ℕ → Bool) (f : Flushed) → ((q : List ℕ) → gone q ≡ (map.contains_key alpha q || map.contains_key beta q))
-      → Progress gone ancestor alpha beta f → Flushes ancestor alpha beta f.ancestor f.alpha f.beta f.conflicts
-  progress_all gone f all p =
+  pub settled_all : (gone : List ℕ → Bool) (f : Flushed) → ((q : List ℕ) → gone q ≡ (map.contains_key alpha q || map.contains_key beta q))
+      → HasSettled gone ancestor alpha beta f → Flushes ancestor alpha beta f.ancestor f.alpha f.beta f.conflicts
+  settled_all gone f all p =
       let neither : (q : List ℕ) → gone q ≡ false → (map.get alpha q ≡ None) × (map.get beta q ≡ None)
       = λ q e. nothing (map.get alpha q) (map.get beta q) (sym (all q) ∙ e) in
       let agreed : (q : List ℕ) → gone q ≡ false → settlement_at ancestor alpha beta q ≡ Agreed

@@ -2,8 +2,6 @@ pub mod Comparisons
 pub mod FlushLaws
 pub mod Flushing
 pub mod Forms
-pub mod LinesLemmas
-pub mod NameMaps
 pub mod PlainLines
 pub mod Prefixes
 pub mod RootFiles

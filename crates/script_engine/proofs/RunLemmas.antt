@@ -1,19 +1,19 @@
 -- How a run of a script goes on from line to line, and what it has come to at its end.
-use Rattle.std.proofs.Common.{◌≡◌, ◌⊎◌, inl, inr, ℕ, ◌+◌, ◌<◌, ◌^◌, List, [], ◌∷◌, ◌++◌, length, take, Option, Some, None, refl, sym, ◌∙◌, ap, subst, append_assoc, append-nil, arith}
+use Rattle.std.proofs.Common.{◌≡◌, ◌⊎◌, inl, inr, ℕ, ◌<◌, ◌^◌, List, [], ◌∷◌, ◌++◌, length, take, Option, Some, None, refl, sym, ◌∙◌, ap, subst, append_assoc, append-nil, arith}
 use Rattle.std.proofs.lemmas.List.{length-append, nil_from_length}
 use Rattle.std.proofs.KnownBytes.{Appends-nil, Appends-trans}
 use Rattle.std.specs.Str.Lines.{lines}
-use Rattle.std.specs.Io.KnownBytes.{Appends, Consumes, IsAtEnd, prepend_known}
-use Rattle.outside_io.specs.Lines.{HasNoNewline, EndsWithNewline, IsLine, TakesFirst, TakesNoLine}
+use Rattle.std.specs.Io.KnownBytes.{Appends, IsAtEnd, prepend_known}
+use Rattle.outside_io.specs.Lines.{HasNoNewline, IsWholeLines, IsLine, TakesFirst, TakesNoLine}
 use Rattle.outside_io.specs.Taking.{CountsTaken}
 use Rattle.outside_io.specs.Told.{WhereTold}
 use Rattle.outside_io.specs.declared.line.Line.{Line}
+use Rattle.outside_io.proofs.LinesLemmas.{lines-append, lines-taken}
 use Rattle.script_engine.specs.declared.flat_roots.FlatRoots.{FlatRoots}
 use Rattle.script_engine.specs.declared.status.Status.TheVariants as status
-use Rattle.script_engine.specs.World.{World, start, world_of}
+use Rattle.script_engine.specs.World.{World, start}
 use Rattle.script_engine.specs.Script.{Answers, Runs}
-use Rattle.script_engine.specs.Run.{IsWholeLines, HasEnded, DoesEnded, DoesSome, DoesUnwritten, IsRun}
-use Rattle.script_engine.proofs.LinesLemmas.{lines-append, lines-taken}
+use Rattle.script_engine.specs.Run.{DoesEnded, DoesUnwritten, IsRun}
 
 -- a run that is followed by one more line
 pub Runs-more : (old : World) (done : List (List ℕ)) (text : List ℕ) (mid : World) (line reply : List ℕ) (new : World)
@@ -48,19 +48,15 @@ pub record Done (all rest : List ℕ) (written written' : Option (List ℕ)) (ro
   pub appended : Appends written written' text
 
 -- the same where the source tells what it holds
-abbrev pub Progress : Option (List ℕ) → Option (List ℕ) → Option (List ℕ) → Option (List ℕ) → FlatRoots → World → Type 0
-Progress left rest written written' roots now =
+abbrev pub HasDone : Option (List ℕ) → Option (List ℕ) → Option (List ℕ) → Option (List ℕ) → FlatRoots → World → Type 0
+HasDone left rest written written' roots now =
     WhereTold left rest (λ all rest. Done all rest written written' roots now)
 
--- the told bytes are those that are left, and as many as were taken
-abbrev pub Counted : Option (List ℕ) → Option (List ℕ) → ℕ → Type 0
-Counted left left' taken = WhereTold left left' (λ all rest. length all ≡ length rest + taken)
-
 -- nothing is done yet
-pub Progress-begins : (left written : Option (List ℕ)) (roots : FlatRoots)
-    → Progress left (prepend_known [] left) written written roots (start roots)
-Progress-begins None written roots = tt
-Progress-begins (Some all) written roots = record {
+pub HasDone-begins : (left written : Option (List ℕ)) (roots : FlatRoots)
+    → HasDone left (prepend_known [] left) written written roots (start roots)
+HasDone-begins None written roots = tt
+HasDone-begins (Some all) written roots = record {
   front = [];
   text = [];
   cut = refl;
@@ -70,16 +66,10 @@ Progress-begins (Some all) written roots = record {
   appended = Appends-nil written;
 }
 
-pub Counted-begins : (left : Option (List ℕ)) → Counted left left 0
-Counted-begins None = tt
-Counted-begins (Some all) = omega arith
-
-pub Counted-more : (left left' left'' : Option (List ℕ)) (taken taken' : ℕ) → Counted left left' taken
-    → CountsTaken left' taken left'' taken' → Counted left left'' taken'
-Counted-more None left' left'' taken taken' counted more = tt
-Counted-more (Some all) None left'' taken taken' counted more = absurd counted
-Counted-more (Some all) (Some rest) None taken taken' counted more = absurd more
-Counted-more (Some all) (Some rest) (Some rest') taken taken' counted more = counted ∙ more
+-- nothing is counted yet
+pub CountsTaken-begins : (left : Option (List ℕ)) → CountsTaken left 0 left 0
+CountsTaken-begins None = tt
+CountsTaken-begins (Some all) = refl
 
 -- from no bytes no line is taken
 none_taken : (rest line : List ℕ) (more : List (List ℕ)) → rest ≡ [] → lines rest ≡ line ∷ more → ⊥
@@ -105,17 +95,17 @@ module _ (all rest held left : List ℕ) (taken : ℕ) (written written' written
       ∙ ap (λ (more : List (List ℕ)). lines so_far.front ++ more)
       (lines-taken (taken < 2 ^ 30) rest takes.taken (held ++ left) takes.bytes takes.cut takes.first takes.ended)
 
-  ended_more : length all ≡ length left + taken
+  ended_more : CountsTaken (Some all) 0 (Some left) taken
       → IsWholeLines (so_far.front ++ takes.taken) ⊎ ((held ++ left ≡ []) × (length all < 2 ^ 30))
   ended_more counted = elim takes.ended [
     | inl ends ↦ inl (inr (
       so_far.front ++ ends.0,
       ap (λ (t : List ℕ). so_far.front ++ t) ends.1 ∙ sym (append_assoc so_far.front ends.0 (10 ∷ [])),
     ))
-    | inr none ↦ inr (none.0, omega (arith, ap length (nil_behind held left none.0), none.1))
+    | inr none ↦ inr (none.0, omega (arith, counted, ap length (nil_behind held left none.0), none.1))
   ]
 
-  pub Done-more : (reply : List ℕ) (new : World) → length all ≡ length left + taken
+  pub Done-more : (reply : List ℕ) (new : World) → CountsTaken (Some all) 0 (Some left) taken
       → Answers now takes.bytes reply new → Appends written' written'' reply → Done all (held ++ left) written written'' roots new
   Done-more reply new counted answers sent = record {
     front = so_far.front ++ takes.taken;
@@ -149,23 +139,23 @@ module _ (all rest held left : List ℕ) (taken : ℕ) (written written' written
   }
 
 -- one more line is done
-pub Progress-more : (left rest left' : Option (List ℕ)) (held : List ℕ) (taken : ℕ) (written written' written'' : Option (List ℕ)) (roots : FlatRoots) (now new : World)
+pub HasDone-more : (left rest left' : Option (List ℕ)) (held : List ℕ) (taken : ℕ) (written written' written'' : Option (List ℕ)) (roots : FlatRoots) (now new : World)
     (line : Line) (reply : List ℕ)
-    → Progress left rest written written' roots now
+    → HasDone left rest written written' roots now
     → WhereTold rest (prepend_known held left') (λ old new. TakesFirst (taken < 2 ^ 30) old new line)
-    → Counted left left' taken
+    → CountsTaken left 0 left' taken
     → ((bytes : List ℕ) → IsLine bytes line → Answers now bytes reply new)
     → Appends written' written'' reply
-    → Progress left (prepend_known held left') written written'' roots new
-Progress-more None rest left' held taken w w' w'' roots now new line reply so_far takes counted answers sent = tt
-Progress-more (Some all) None left' held taken w w' w'' roots now new line reply so_far takes counted answers sent = absurd so_far
-Progress-more (Some all) (Some rest) None held taken w w' w'' roots now new line reply so_far takes counted answers sent = absurd takes
-Progress-more (Some all) (Some rest) (Some left) held taken w w' w'' roots now new line reply so_far takes counted answers sent =
+    → HasDone left (prepend_known held left') written written'' roots new
+HasDone-more None rest left' held taken w w' w'' roots now new line reply so_far takes counted answers sent = tt
+HasDone-more (Some all) None left' held taken w w' w'' roots now new line reply so_far takes counted answers sent = absurd so_far
+HasDone-more (Some all) (Some rest) None held taken w w' w'' roots now new line reply so_far takes counted answers sent = absurd takes
+HasDone-more (Some all) (Some rest) (Some left) held taken w w' w'' roots now new line reply so_far takes counted answers sent =
     Done-more all rest held left taken w w' w'' roots now line so_far takes reply new counted (answers takes.bytes takes.answered) sent
 
 -- every line is done once nothing is left
 pub Run-whole : (left rest left' : Option (List ℕ)) (taken : ℕ) (written written' : Option (List ℕ)) (roots : FlatRoots) (now : World)
-    → Progress left rest written written' roots now → IsAtEnd rest → IsAtEnd left' → Counted left left' taken → taken < 2 ^ 30
+    → HasDone left rest written written' roots now → IsAtEnd rest → IsAtEnd left' → CountsTaken left 0 left' taken → taken < 2 ^ 30
     → IsRun status.Ok left left' written written' roots now.roots
 Run-whole None rest left' taken w w' roots now so_far ended end counted met = tt
 Run-whole (Some all) None left' taken w w' roots now so_far ended end counted met = absurd so_far
@@ -186,7 +176,7 @@ Run-whole (Some all) (Some rest) (Some left) taken w w' roots now so_far ended e
 
 module _ (all rest left' : List ℕ) (taken' : ℕ) (w w' : Option (List ℕ)) (roots : FlatRoots) (now : World)
     (so_far : Done all rest w w' roots now) (part : List ℕ) (no_end : HasNoNewline part) (passed : rest ≡ part ++ left')
-    (counted : length all ≡ length left' + taken') where
+    (counted : CountsTaken (Some all) 0 (Some left') taken') where
   all_is : all ≡ (so_far.front ++ part) ++ left'
   all_is = so_far.cut ∙ ap (λ (r : List ℕ). so_far.front ++ r) passed ∙ sym (append_assoc so_far.front part left')
 
@@ -217,7 +207,7 @@ module _ (all rest left' : List ℕ) (taken' : ℕ) (w w' : Option (List ℕ)) (
 
 -- a read failed, before 2^30 bytes were taken
 pub Run-faulted : (left rest left' : Option (List ℕ)) (taken : ℕ) (written written' : Option (List ℕ)) (roots : FlatRoots) (now : World)
-    → Progress left rest written written' roots now → TakesNoLine rest left' → Counted left left' taken → taken < 2 ^ 30
+    → HasDone left rest written written' roots now → TakesNoLine rest left' → CountsTaken left 0 left' taken → taken < 2 ^ 30
     → IsRun status.ReadFault left left' written written' roots now.roots
 Run-faulted None rest left' taken w w' roots now so_far no_line counted before = tt
 Run-faulted (Some all) None left' taken w w' roots now so_far no_line counted before = absurd so_far
@@ -229,7 +219,7 @@ Run-faulted (Some all) (Some rest) (Some left) taken w w' roots now so_far no_li
 
 -- 2^30 bytes were taken
 pub Run-spent : (left rest left' : Option (List ℕ)) (taken : ℕ) (written written' : Option (List ℕ)) (roots : FlatRoots) (now : World)
-    → Progress left rest written written' roots now → TakesNoLine rest left' → Counted left left' taken → taken ≡ 2 ^ 30
+    → HasDone left rest written written' roots now → TakesNoLine rest left' → CountsTaken left 0 left' taken → taken ≡ 2 ^ 30
     → IsRun status.SourceSpent left left' written written' roots now.roots
 Run-spent None rest left' taken w w' roots now so_far no_line counted all_taken = tt
 Run-spent (Some all) None left' taken w w' roots now so_far no_line counted all_taken = absurd so_far
@@ -241,7 +231,7 @@ Run-spent (Some all) (Some rest) (Some left) taken w w' roots now so_far no_line
 
 -- memory ran out before the next line was done
 pub Run-wanting : (left rest left' : Option (List ℕ)) (taken : ℕ) (written written' : Option (List ℕ)) (roots : FlatRoots) (now : World)
-    → Progress left rest written written' roots now → Counted left left' taken
+    → HasDone left rest written written' roots now → CountsTaken left 0 left' taken
     → IsRun status.NoMemory left left' written written' roots now.roots
 Run-wanting None rest left' taken w w' roots now so_far counted = tt
 Run-wanting (Some all) None left' taken w w' roots now so_far counted = absurd so_far
@@ -257,9 +247,9 @@ Run-wanting (Some all) (Some rest) (Some left) taken w w' roots now so_far count
 -- a reply was written in part
 pub Run-unwritten : (left rest left' : Option (List ℕ)) (held : List ℕ) (taken : ℕ) (written written' written'' : Option (List ℕ)) (roots : FlatRoots)
     (now new : World) (line : Line) (reply : List ℕ)
-    → Progress left rest written written' roots now
+    → HasDone left rest written written' roots now
     → WhereTold rest (prepend_known held left') (λ old new. TakesFirst (taken < 2 ^ 30) old new line)
-    → Counted left left' taken
+    → CountsTaken left 0 left' taken
     → ((bytes : List ℕ) → IsLine bytes line → Answers now bytes reply new)
     → ((n : ℕ) × (n < length reply) × Appends written' written'' (take n reply))
     → IsRun status.WriteFault left left' written written'' roots new.roots

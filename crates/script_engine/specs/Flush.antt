@@ -24,14 +24,22 @@ settle ancestor alpha beta =
     else (if is_same beta ancestor then ToBeta
     else Conflict))
 
+-- the digest of a file, where there is one
+abbrev pub digest_of : Option (List ℕ) → Option (List ℕ)
+digest_of file = option_map sha256 file
+
 -- the digest of the file that a root holds at a name
 abbrev pub digest_at : Files → List ℕ → Option (List ℕ)
-digest_at files name = option_map sha256 (map.get files name)
+digest_at files name = digest_of (map.get files name)
+
+-- how a name is decided at which the sides hold these files
+abbrev pub settlement_of : Option (List ℕ) → Option (List ℕ) → Option (List ℕ) → Settlement
+settlement_of ancestor alpha beta = settle ancestor (digest_of alpha) (digest_of beta)
 
 -- how a name is decided
 abbrev pub settlement_at : ByName (List ℕ) → Files → Files → List ℕ → Settlement
 settlement_at ancestor alpha beta name =
-    settle (map.get ancestor name) (digest_at alpha name) (digest_at beta name)
+    settlement_of (map.get ancestor name) (map.get alpha name) (map.get beta name)
 
 -- alpha takes beta's file where it alone is as the ancestor has it
 abbrev pub alpha_after : {X : Type 0} → Settlement → X → X → X

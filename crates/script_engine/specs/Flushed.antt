@@ -1,26 +1,16 @@
 -- What a flush in progress has come to.
 use Rattle.std.specs.Prelude.{◌≡◌, ℕ, List, Option, None, Some}
-use Rattle.std.specs.Option.{option_map}
 use Rattle.std.specs.FinMap as map
-use Rattle.sha2.specs.Sha256.{sha256}
 use Rattle.script_engine.specs.declared.flush.Flushed.{Flushed}
 use Rattle.script_engine.specs.declared.flush.Settlement.{Settlement}
 use Rattle.script_engine.specs.declared.flush.Settlement.TheVariants.{Agreed, ToAlpha, ToBeta, Conflict}
 use Rattle.script_engine.specs.Names.{ByName}
-use Rattle.script_engine.specs.Flush.{settle, alpha_after, beta_after, ancestor_after}
+use Rattle.script_engine.specs.Flush.{digest_of, settlement_of, alpha_after, beta_after, ancestor_after}
 
 -- the map with the value at the name, where there is one
 abbrev pub noted : {X : Type 0} → ByName X → List ℕ → Option X → ByName X
 noted names name None = names
 noted names name (Some value) = map.insert names name value
-
--- the digest of a file
-abbrev pub digest_of : Option (List ℕ) → Option (List ℕ)
-digest_of file = option_map sha256 file
-
--- how a name is decided at which the sides hold these files
-abbrev pub settlement_of : Option (List ℕ) → Option (List ℕ) → Option (List ℕ) → Settlement
-settlement_of ancestor alpha beta = settle ancestor (digest_of alpha) (digest_of beta)
 
 -- what the set of conflicts gets at a name that is decided so
 abbrev pub conflict_mark : Settlement → Option (Unit {0})

@@ -1,13 +1,11 @@
 -- What every flush of a script keeps to, whatever the roots and the session hold.
 use Rattle.std.specs.Prelude.{◌≡◌, ◌≢◌, ◌⊎◌, ℕ, true, List, [], ◌∷◌, Option, Some}
-use Rattle.std.specs.Option.{option_map}
 use Rattle.std.specs.FinMap as map
-use Rattle.sha2.specs.Sha256.{sha256}
 use Rattle.script_engine.specs.declared.flat_roots.RootName.{RootName}
 use Rattle.script_engine.specs.declared.session.Session.{Session}
 use Rattle.script_engine.specs.declared.request.Request.TheVariants.{Flush}
 use Rattle.script_engine.specs.World.{World, other_root, files_of}
-use Rattle.script_engine.specs.Flush.{digest_at}
+use Rattle.script_engine.specs.Flush.{digest_of}
 use Rattle.script_engine.specs.Script.{is_called, line_request, Answers, Runs}
 
 -- the file that a root holds at a name
@@ -16,20 +14,23 @@ file_at world root name = map.get (files_of world.roots root) name
 
 -- the digest of that file
 abbrev pub root_digest : World → RootName → List ℕ → Option (List ℕ)
-root_digest world root name = digest_at (files_of world.roots root) name
+root_digest world root name = digest_of (file_at world root name)
 
 -- the line is a flush that names the session
 abbrev pub IsFlushOf : List ℕ → Session → Type 0
 IsFlushOf line session = (word : List ℕ) × (line_request line ≡ Some (Flush word)) × (is_called session word ≡ true)
 
+-- where the line is a flush that names the session, there is one afterwards, and the law holds of the two
+abbrev pub KeepsAt : (World → Session → World → Session → Type 0) → World → List ℕ → World → Type 0
+KeepsAt Law old line new = (session : Session) → old.session ≡ Some session → IsFlushOf line session
+    → (after : Session) × (new.session ≡ Some after) × Law old session new after
+
 -- each flush of the run that names the session keeps to the law
 abbrev pub EachFlush : (World → Session → World → Session → Type 0) → (old : World) → (lines : List (List ℕ)) → (text : List ℕ) → (new : World)
     → Runs old lines text new → Type 0
 EachFlush Law old [] text new ran = Unit {0}
-EachFlush Law old (line ∷ lines) text new ran =
-    ((session : Session) → old.session ≡ Some session → IsFlushOf line session
-    → (after : Session) × (ran.1.session ≡ Some after) × Law old session ran.1 after)
-    × EachFlush Law ran.1 lines ran.2 new ran.5
+EachFlush Law old (line ∷ lines) text new (reply, mid, rest, answered, written, ran) =
+    KeepsAt Law old line mid × EachFlush Law mid lines rest new ran
 
 -- in every script, from every world, each flush keeps to the law
 abbrev pub EveryFlush : (World → Session → World → Session → Type 0) → Type 0
@@ -38,7 +39,7 @@ EveryFlush Law = (old : World) → (lines : List (List ℕ)) → (text : List �
 
 -- a root keeps its file, or takes the other's in place of one that is as the ancestor has it
 abbrev pub KeepsOrTakes : Option (List ℕ) → Option (List ℕ) → Option (List ℕ) → Option (List ℕ) → Type 0
-KeepsOrTakes ancestor own other own' = (own' ≡ own) ⊎ ((own' ≡ other) × (option_map sha256 own ≡ ancestor))
+KeepsOrTakes ancestor own other own' = (own' ≡ own) ⊎ ((own' ≡ other) × (digest_of own ≡ ancestor))
 
 -- a file is replaced only by the other side's, and only where the one replaced is the ancestor's
 abbrev pub TakesOnlyTheOthers : World → Session → World → Session → Type 0

@@ -3,7 +3,7 @@ use Rattle.std.specs.Prelude.{◌≡◌, ◌⊎◌, ℕ, ◌^◌, ◌<◌, Bool,
 use Rattle.std.specs.Str.{bytes_eq}
 use Rattle.std.specs.Str.Lines.{lines}
 use Rattle.std.specs.Io.KnownBytes.{Appends}
-use Rattle.outside_io.specs.Lines.{HasNoNewline, EndsWithNewline}
+use Rattle.outside_io.specs.Lines.{HasNoNewline, IsWholeLines}
 use Rattle.outside_io.specs.Told.{WhereTold}
 use Rattle.script_engine.specs.declared.flat_roots.FlatRoots.{FlatRoots}
 use Rattle.script_engine.specs.declared.status.Status.{Status}
@@ -16,10 +16,6 @@ abbrev pub is_script : List (List ℕ) → Bool
 is_script (word ∷ []) = bytes_eq word (codes "script")
 is_script [] = false
 is_script (word ∷ next ∷ more) = false
-
--- no bytes, or bytes of which the last one ends a line
-abbrev pub IsWholeLines : List ℕ → Type 0
-IsWholeLines bytes = (bytes ≡ []) ⊎ EndsWithNewline bytes
 
 -- Of the bytes that were read, these are the lines that have ended: by a newline, or by the end of the input, which is
 -- met only where fewer than 2^30 bytes were read.

@@ -1,8 +1,8 @@
 //! A flush: each name is decided by what the ancestor and the two sides hold there.
 ghost use Rattle.std.specs.Prelude.{◌≡◌, IfOk, OnOk};
 ghost use Rattle.std.specs.Option.{option_copied};
-ghost use Rattle.script_engine.specs.Flush.{is_same, settle, Flushes};
-ghost use Rattle.script_engine.specs.Flushed.{noted, digest_of, conflict_mark, SettlesName};
+ghost use Rattle.script_engine.specs.Flush.{is_same, settle, digest_of, Flushes};
+ghost use Rattle.script_engine.specs.Flushed.{noted, conflict_mark, SettlesName};
 
 use crate::name_map::NameMap;
 use crate::word::Contents;
@@ -25,11 +25,11 @@ pub enum Settlement {
 
 /// What the two sides and the ancestor hold after a flush, and the names that are conflicts.
 #[derive(Drop)]
-pub(crate) struct Flushed {
-    pub(crate) alpha: NameMap<Contents>,
-    pub(crate) beta: NameMap<Contents>,
-    pub(crate) ancestor: NameMap<Digest>,
-    pub(crate) conflicts: NameMap<()>,
+pub struct Flushed {
+    pub alpha: NameMap<Contents>,
+    pub beta: NameMap<Contents>,
+    pub ancestor: NameMap<Digest>,
+    pub conflicts: NameMap<()>,
 }
 
 /// How a name is decided at which the ancestor, alpha and beta hold files of these digests.
@@ -66,7 +66,7 @@ fn is_same(first: &Option<Digest>, second: &Option<Digest>) -> bool
 ///
 /// It takes memory for copies of the files that the sides hold then, and for the names. It costs
 /// O(n log n) for n names, and reads each file once for its digest and once for each copy.
-pub(crate) fn flush(
+pub fn flush(
     alloc: Global,
     ancestor: &NameMap<Digest>,
     alpha: &NameMap<Contents>,
@@ -184,135 +184,5 @@ fn note_conflict(
     match settlement {
         Settlement::Conflict => conflicts.insert(name.copy(alloc)?, ()),
         Settlement::Agreed | Settlement::ToAlpha | Settlement::ToBeta => Ok(()),
-    }
-}
-
-#[cfg(test)]
-mod tests {
-    use super::{Flushed, flush};
-    use crate::name_map::NameMap;
-    use crate::word::Contents;
-    use entry_tree::Digest;
-    use std::alloc::Global;
-    use std::test::Fail;
-    use sync_path::Name;
-
-    const X: Option<&str> = Some("x");
-
-    const Y: Option<&str> = Some("y");
-
-    const Z: Option<&str> = Some("z");
-
-    /// A name, and what the ancestor, alpha and beta hold there.
-    type Case = (
-        &'static str,
-        Option<&'static str>,
-        Option<&'static str>,
-        Option<&'static str>,
-    );
-
-    fn put_file(
-        alloc: Global,
-        files: &mut NameMap<Contents>,
-        name: &Name,
-        text: Option<&str>,
-    ) -> Result<(), Fail> {
-        if let Some(text) = text {
-            files.insert(name.copy(alloc)?, Contents::new(alloc, text.as_bytes())?)?;
-        }
-        Ok(())
-    }
-
-    fn flush_of(alloc: Global, cases: &[Case]) -> Result<Flushed, Fail> {
-        let mut ancestor = NameMap::new(alloc);
-        let mut alpha = NameMap::new(alloc);
-        let mut beta = NameMap::new(alloc);
-        for &(name, agreed, at_alpha, at_beta) in cases {
-            let name = Name::read(alloc, name)?;
-            if let Some(text) = agreed {
-                ancestor.insert(name.copy(alloc)?, Digest::of(text.as_bytes()))?;
-            }
-            put_file(alloc, &mut alpha, &name, at_alpha)?;
-            put_file(alloc, &mut beta, &name, at_beta)?;
-        }
-        Ok(flush(alloc, &ancestor, &alpha, &beta)?)
-    }
-
-    fn has_file(files: &NameMap<Contents>, name: &Name, text: Option<&str>) -> bool {
-        match (files.get(name), text) {
-            (Some(contents), Some(text)) => contents.as_slice() == text.as_bytes(),
-            (None, None) => true,
-            _ => false,
-        }
-    }
-
-    fn has_digest(digests: &NameMap<Digest>, name: &Name, text: Option<&str>) -> bool {
-        match (digests.get(name), text) {
-            (Some(digest), Some(text)) => *digest == Digest::of(text.as_bytes()),
-            (None, None) => true,
-            _ => false,
-        }
-    }
-
-    #[test]
-    fn each_name_is_settled(rt: HostRuntime) -> Result<(), Fail> {
-        let alloc = rt.alloc();
-        let cases = [
-            ("made at alpha", None, X, None),
-            ("made at beta", None, None, X),
-            ("made at both", None, X, X),
-            ("changed at alpha", Y, X, Y),
-            ("changed at beta", Y, Y, X),
-            ("changed at both", Y, X, X),
-            ("held by neither", Y, None, None),
-        ];
-        let flushed = flush_of(alloc, &cases)?;
-        assert!(rt; flushed.conflicts.is_empty());
-        for (text, _, alpha, beta) in cases {
-            let name = Name::read(alloc, text)?;
-            let after = if alpha.is_some() || beta.is_some() {
-                X
-            } else {
-                None
-            };
-            assert!(rt; has_file(&flushed.alpha, &name, after), "alpha: {text}");
-            assert!(rt; has_file(&flushed.beta, &name, after), "beta: {text}");
-            assert!(rt;
-                has_digest(&flushed.ancestor, &name, after),
-                "ancestor: {text}"
-            );
-        }
-        Ok(())
-    }
-
-    #[test]
-    fn files_that_changed_apart_are_a_conflict(rt: HostRuntime) -> Result<(), Fail> {
-        let alloc = rt.alloc();
-        let cases = [
-            ("made", None, X, Y),
-            ("changed", X, Y, Z),
-            ("lost at alpha", X, None, Y),
-            ("lost at beta", X, Y, None),
-        ];
-        let flushed = flush_of(alloc, &cases)?;
-        let mut order = String::new(alloc);
-        for (name, _) in flushed.conflicts.iter() {
-            order.push_str(name.as_str())?;
-            order.push_str(", ")?;
-        }
-        assert_eq!(rt;
-            order.as_str(),
-            "changed, lost at alpha, lost at beta, made, "
-        );
-        for (text, agreed, alpha, beta) in cases {
-            let name = Name::read(alloc, text)?;
-            assert!(rt; has_file(&flushed.alpha, &name, alpha), "alpha: {text}");
-            assert!(rt; has_file(&flushed.beta, &name, beta), "beta: {text}");
-            assert!(rt;
-                has_digest(&flushed.ancestor, &name, agreed),
-                "ancestor: {text}"
-            );
-        }
-        Ok(())
     }
 }

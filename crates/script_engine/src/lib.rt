@@ -6,7 +6,7 @@
 #![tactic(auto)]
 
 mod flat_roots;
-mod flush;
+pub mod flush;
 mod laws;
 mod name_map;
 mod replies;
@@ -27,6 +27,3 @@ pub use name_map::NameMap;
 pub use script::run_script;
 pub use status::Status;
 pub use word::Contents;
-
-#[cfg(test)]
-mod tests;

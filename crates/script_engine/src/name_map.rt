@@ -83,29 +83,3 @@ impl<V: Drop> NameMap<V> {
         Ok(())
     }
 }
-
-#[cfg(test)]
-mod tests {
-    use super::NameMap;
-    use std::test::Fail;
-    use sync_path::Name;
-
-    #[test]
-    fn a_map_goes_over_its_names_in_the_order_of_their_bytes(rt: HostRuntime) -> Result<(), Fail> {
-        let alloc = rt.alloc();
-        let mut sizes: NameMap<u32> = NameMap::new(alloc);
-        assert!(rt; sizes.is_empty());
-        for (text, size) in [("b", 1), ("é", 2), ("a", 3), ("B", 4), ("a", 5)] {
-            sizes.insert(Name::read(alloc, text)?, size)?;
-        }
-        assert_eq!(rt; sizes.len(), 4);
-        assert_eq!(rt; sizes.get(&Name::read(alloc, "a")?).copied(), Some(5));
-        assert_eq!(rt; sizes.get(&Name::read(alloc, "c")?).copied(), None);
-        let mut order = String::new(alloc);
-        for (name, _) in sizes.iter() {
-            order.push_str(name.as_str())?;
-        }
-        assert_eq!(rt; order.as_str(), "Babé");
-        Ok(())
-    }
-}

@@ -168,6 +168,3 @@ fn show_request(alloc: Global, show: &str, root: &str) -> Result<Option<Request>
         Ok(None)
     }
 }
-
-#[cfg(test)]
-mod tests;

@@ -28,13 +28,6 @@ impl Word {
         })
     }
 
-    /// Another word with the same text. It takes memory for the copy.
-    pub fn copy(&self, alloc: Global) -> Result<Word, AllocError>
-        ensures { IfOk result (λ word. word ≡ self.now) }
-    {
-        Word::new(alloc, self.as_str())
-    }
-
     /// The text. It takes no memory.
     pub fn as_str(&self) -> &str
         ensures { result.now ≡ self.now }
@@ -65,13 +58,6 @@ impl Contents {
         Ok(Contents {
             bytes: Vec::from_slice(alloc, bytes)?,
         })
-    }
-
-    /// Another file with the same bytes. It takes memory for the copy.
-    pub fn copy(&self, alloc: Global) -> Result<Contents, AllocError>
-        ensures { IfOk result (λ contents. contents ≡ self.now) }
-    {
-        Contents::new(alloc, self.as_slice())
     }
 
     /// The bytes. It takes no memory.

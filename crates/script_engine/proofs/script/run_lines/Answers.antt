@@ -1,8 +1,9 @@
-use Rattle.std.proofs.Common.{◌≡◌, ◌≤◌, ◌+◌, inl, inr, refl, Ok, Err, ap, string_bytes, arith}
+use Rattle.std.proofs.Common.{inl, inr, Ok, Err, ap, string_bytes, arith}
 use Rattle.std.proofs.KnownBytes.{Keeps-refl, prepend_known-end}
 use Rattle.outside_io.specs.Reading.{rest_of}
+use Rattle.outside_io.proofs.TakingLemmas.{CountsTaken-trans}
 use Rattle.script_engine.specs.World.{world_of}
-use Rattle.script_engine.proofs.RunLemmas.{Counted-more, Progress-more, Run-whole, Run-faulted, Run-spent, Run-wanting, Run-unwritten}
+use Rattle.script_engine.proofs.RunLemmas.{HasDone-more, Run-whole, Run-faulted, Run-spent, Run-wanting, Run-unwritten}
 use Rattle.script_engine.proofs.script.run_lines.Goals as goal
 
 pub returns-in-Ok-None-clause-run : goal.returns-in-Ok-None-clause-run
@@ -13,9 +14,9 @@ returns-in-Ok-None-clause-run g c =
     let none = ap Ok c.in-Ok-None.field-0-is in
     let ended = c.in-Ok-None.ensures.end none in
     Run-whole (left c.args.source.now) rest (left c.next.new.source) c.next.new.self.taken (written c.args.sink.now)
-    (written c.lines.sink) c.args.roots.now (world_of c.lines.roots c.lines.session) c.lines.invariant.progress
+    (written c.lines.sink) c.args.roots.now (world_of c.lines.roots c.lines.session) c.lines.invariant.done
     (prepend_known-end rest (left c.lines.source) c.lines.reader.held (Keeps-refl rest) ended.0 ended.2) ended.3
-    (Counted-more (left c.args.source.now) (left c.lines.source) (left c.next.new.source) c.lines.reader.taken c.next.new.self.taken
+    (CountsTaken-trans (left c.args.source.now) (left c.lines.source) (left c.next.new.source) 0 c.lines.reader.taken c.next.new.self.taken
     c.lines.invariant.counted c.in-Ok-None.ensures.counted)
     (c.in-Ok-None.ensures.met none)
 
@@ -26,9 +27,9 @@ returns-in-Err-ReadFault-clause-run g c =
     let fault = ap Err c.in-Err-ReadFault.field-0-is in
     Run-faulted (left c.args.source.now) (rest_of c.lines.reader (left c.lines.source)) (left c.next.new.source) c.next.new.self.taken
     (written c.args.sink.now) (written c.lines.sink) c.args.roots.now (world_of c.lines.roots c.lines.session)
-    c.lines.invariant.progress
+    c.lines.invariant.done
     (c.in-Err-ReadFault.ensures.no_line (inl fault))
-    (Counted-more (left c.args.source.now) (left c.lines.source) (left c.next.new.source) c.lines.reader.taken c.next.new.self.taken
+    (CountsTaken-trans (left c.args.source.now) (left c.lines.source) (left c.next.new.source) 0 c.lines.reader.taken c.next.new.self.taken
     c.lines.invariant.counted c.in-Err-ReadFault.ensures.counted)
     (c.in-Err-ReadFault.ensures.fault_before c.lines.invariant.going fault)
 
@@ -39,9 +40,9 @@ returns-in-Err-SourceSpent-clause-run g c =
     let fault = ap Err c.in-Err-SourceSpent.field-0-is in
     Run-spent (left c.args.source.now) (rest_of c.lines.reader (left c.lines.source)) (left c.next.new.source) c.next.new.self.taken
     (written c.args.sink.now) (written c.lines.sink) c.args.roots.now (world_of c.lines.roots c.lines.session)
-    c.lines.invariant.progress
+    c.lines.invariant.done
     (c.in-Err-SourceSpent.ensures.no_line (inr fault))
-    (Counted-more (left c.args.source.now) (left c.lines.source) (left c.next.new.source) c.lines.reader.taken c.next.new.self.taken
+    (CountsTaken-trans (left c.args.source.now) (left c.lines.source) (left c.next.new.source) 0 c.lines.reader.taken c.next.new.self.taken
     c.lines.invariant.counted c.in-Err-SourceSpent.ensures.counted)
     (c.in-Err-SourceSpent.ensures.spent fault)
 
@@ -51,8 +52,8 @@ returns-in-Err-Memory-clause-run g c =
     let written = g.K.Sink.written in
     Run-wanting (left c.args.source.now) (rest_of c.lines.reader (left c.lines.source)) (left c.next.new.source) c.next.new.self.taken
     (written c.args.sink.now) (written c.lines.sink) c.args.roots.now (world_of c.lines.roots c.lines.session)
-    c.lines.invariant.progress
-    (Counted-more (left c.args.source.now) (left c.lines.source) (left c.next.new.source) c.lines.reader.taken c.next.new.self.taken
+    c.lines.invariant.done
+    (CountsTaken-trans (left c.args.source.now) (left c.lines.source) (left c.next.new.source) 0 c.lines.reader.taken c.next.new.self.taken
     c.lines.invariant.counted c.in-Err-Memory.ensures.counted)
 
 pub returns-in_default-clause-run : goal.returns-in_default-clause-run
@@ -61,8 +62,8 @@ returns-in_default-clause-run g c =
     let written = g.K.Sink.written in
     rw c.in_default.ensures.err.0 (Run-wanting (left c.args.source.now) (rest_of c.lines.reader (left c.lines.source)) (left c.next.new.source) c.next.new.self.taken
     (written c.args.sink.now) (written c.lines.sink) c.args.roots.now (world_of c.lines.roots c.lines.session)
-    c.lines.invariant.progress
-    (Counted-more (left c.args.source.now) (left c.lines.source) (left c.next.new.source) c.lines.reader.taken c.next.new.self.taken
+    c.lines.invariant.done
+    (CountsTaken-trans (left c.args.source.now) (left c.lines.source) (left c.next.new.source) 0 c.lines.reader.taken c.next.new.self.taken
     c.lines.invariant.counted c.in-Ok-Some.ensures.counted))
 
 pub returns-in_default-send-clause-run : goal.returns-in_default-send-clause-run
@@ -74,8 +75,8 @@ returns-in_default-send-clause-run g c =
     Run-unwritten (left c.args.source.now) (rest_of c.lines.reader (left c.lines.source)) (left c.next.new.source)
     c.next.new.self.held c.next.new.self.taken (written c.args.sink.now) (written c.lines.sink) (written c.send.new.sink)
     c.args.roots.now (world_of c.lines.roots c.lines.session) (world_of c.answer.new.roots c.answer.new.session)
-    c.in-Ok-Some.line (string_bytes c.in-Ok.reply) c.lines.invariant.progress taken
-    (Counted-more (left c.args.source.now) (left c.lines.source) (left c.next.new.source) c.lines.reader.taken c.next.new.self.taken
+    c.in-Ok-Some.line (string_bytes c.in-Ok.reply) c.lines.invariant.done taken
+    (CountsTaken-trans (left c.args.source.now) (left c.lines.source) (left c.next.new.source) 0 c.lines.reader.taken c.next.new.self.taken
     c.lines.invariant.counted c.in-Ok-Some.ensures.counted)
     c.in-Ok.ensures.answered part
 
@@ -85,13 +86,13 @@ lines-preserved g c =
     let written = g.K.Sink.written in
     let taken = rw c.in-Ok-Some.field-0-is at c.in-Ok-Some.ensures.line in
     let sent = rw c.as_bytes.ensures.value at c.in-Ok-send.ensures.all in
-    let counted = Counted-more (left c.args.source.now) (left c.lines.source) (left c.next.new.source) c.lines.reader.taken
+    let counted = CountsTaken-trans (left c.args.source.now) (left c.lines.source) (left c.next.new.source) 0 c.lines.reader.taken
     c.next.new.self.taken c.lines.invariant.counted c.in-Ok-Some.ensures.counted in
     record {
-      progress = Progress-more (left c.args.source.now) (rest_of c.lines.reader (left c.lines.source)) (left c.next.new.source)
+      done = HasDone-more (left c.args.source.now) (rest_of c.lines.reader (left c.lines.source)) (left c.next.new.source)
           c.next.new.self.held c.next.new.self.taken (written c.args.sink.now) (written c.lines.sink) (written c.send.new.sink)
           c.args.roots.now (world_of c.lines.roots c.lines.session) (world_of c.answer.new.roots c.answer.new.session)
-          c.in-Ok-Some.line (string_bytes c.in-Ok.reply) c.lines.invariant.progress taken counted c.in-Ok.ensures.answered sent;
+          c.in-Ok-Some.line (string_bytes c.in-Ok.reply) c.lines.invariant.done taken counted c.in-Ok.ensures.answered sent;
       counted = counted;
       going = c.in-Ok-Some.ensures.stuck;
       reads = omega arith;

@@ -1,7 +1,7 @@
 use Rattle.std.proofs.Common.{ap, sym, ◌∙◌}
 use Rattle.std.specs.FinMap as map
 use Rattle.std.specs.Cmp.Lexicographic.{nat_list_cmp_total}
-use Rattle.script_engine.proofs.NameMaps.{get-from_tree}
+use Rattle.finite_maps.proofs.TreeMaps.{get-from_tree}
 use Rattle.script_engine.proofs.name_map.NameMap.get.Goals as goal
 
 pub returns : goal.returns

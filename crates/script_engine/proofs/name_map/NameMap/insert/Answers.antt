@@ -2,7 +2,7 @@ use Rattle.std.proofs.Common.{ap, ◌∙◌}
 use Rattle.std.specs.FinMap as map
 use Rattle.std.specs.Cmp.Lexicographic.{nat_list_cmp_total}
 use Rattle.std.proofs.lemmas.Map.Lookups.{exact_bytes}
-use Rattle.script_engine.proofs.NameMaps.{insert-from_tree}
+use Rattle.finite_maps.proofs.TreeMaps.{insert-from_tree}
 use Rattle.script_engine.proofs.name_map.NameMap.insert.Goals as goal
 
 pub returns-clause-ok : goal.returns-clause-ok

@@ -2,7 +2,7 @@ use Rattle.std.proofs.Common.{ap, sym, subst, ◌∙◌, ◌<◌, ◌^◌, ℕ}
 use Rattle.std.specs.FinMap as map
 use Rattle.std.specs.Cmp.Lexicographic.{nat_list_cmp_total}
 use Rattle.std.proofs.lemmas.Map.Lookups.{exact_bytes}
-use Rattle.script_engine.proofs.NameMaps.{entries-from_tree, len-from_tree}
+use Rattle.finite_maps.proofs.TreeMaps.{entries-from_tree, len-from_tree}
 use Rattle.script_engine.proofs.name_map.NameMap.iter.Goals as goal
 
 pub returns-clause-rest : goal.returns-clause-rest

@@ -1,0 +1,2 @@
+pub mod MapLoops
+pub mod TreeMaps
