@@ -29,7 +29,7 @@ pub use reader::{FeedError, FrameReader};
 pub use stream_id::StreamId;
 pub use window_amount::WindowAmount;
 pub use wire::{MAX_AMOUNT, MAX_FRAME, MAX_PAYLOAD};
-pub use write::write_frame;
+pub use write::{append_data, write_frame};
 
 #[cfg(test)]
 mod tests;

@@ -35,8 +35,8 @@ impl StreamId {
         }
     }
 
-    /// The same where the caller knows that it is one.
-    pub(crate) fn of(number: u32) -> StreamId
+    /// The same where the caller knows that it is one. It takes no memory.
+    pub fn of(number: u32) -> StreamId
         requires { 0 < number }
         ensures { result ≡ number }
     {

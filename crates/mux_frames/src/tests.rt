@@ -44,6 +44,9 @@ fn each_kind_has_the_bytes_of_the_table(rt: HostRuntime) -> Result<(), Fail> {
         assert!(rt; frame.copy()? == *frame);
     }
     assert_eq!(rt; all.as_slice(), KINDS.as_slice());
+    let mut one = Vec::new(rt.alloc());
+    append_data(&mut one, stream(1)?, b"abc")?;
+    assert_eq!(rt; one.as_slice(), &KINDS[10..20]);
     Ok(())
 }
 

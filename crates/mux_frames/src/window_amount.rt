@@ -38,8 +38,8 @@ impl WindowAmount {
         }
     }
 
-    /// The same where the caller knows that it is one.
-    pub(crate) fn of(count: u32) -> WindowAmount
+    /// The same where the caller knows that it is one. It takes no memory.
+    pub fn of(count: u32) -> WindowAmount
         requires { IsAmount count }
         ensures { result ≡ count }
     {

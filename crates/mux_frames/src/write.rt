@@ -1,6 +1,7 @@
 //! Writing a frame.
-ghost use Rattle.std.specs.Prelude.{◌≡◌, ◌∷◌, IfOk};
+ghost use Rattle.std.specs.Prelude.{◌≡◌, ◌∷◌, ◌++◌, IfOk, OnOk};
 ghost use Rattle.std.specs.Int.{w32, to_be_bytes};
+ghost use Rattle.mux_frames.specs.Fields.{IsPayload};
 ghost use Rattle.mux_frames.specs.Frames.{IsFrame, spelling};
 
 use crate::data_bytes::DataBytes;
@@ -63,4 +64,18 @@ fn data_frame(alloc: Global, stream: StreamId, payload: &DataBytes) -> Result<Ve
     bytes.extend_from_slice(&(size as u16).to_be_bytes())?;
     bytes.extend_from_slice(payload.as_slice())?;
     Ok(bytes)
+}
+
+/// Writes a Data frame of these bytes, 1 to 16,384 of them, behind what stands in `out`. Each byte is
+/// copied once. Where memory runs out a part of the frame may stand there.
+pub fn append_data(out: &mut Vec<u8>, stream: StreamId, payload: &[u8]) -> Result<(), AllocError>
+    requires { IsPayload payload.now }
+    ensures frame { IsFrame (MuxFrame.Payload stream payload.now) }
+    ensures spelled { OnOk result (out.new.items
+        ≡ out.old.items ++ spelling (MuxFrame.Payload stream payload.now)) }
+{
+    out.push(KIND_DATA)?;
+    out.extend_from_slice(&stream.number().to_be_bytes())?;
+    out.extend_from_slice(&(payload.len() as u16).to_be_bytes())?;
+    out.extend_from_slice(payload)
 }

@@ -1,0 +1,4 @@
+pub mod Pieces
+pub mod StreamTree
+pub mod DataFrames
+pub mod TreeSize
