@@ -1,0 +1,27 @@
+//! Ignore patterns: texts such as `*.o`, `/build/` and `a/**/b`, and which paths they match.
+//!
+//! A pattern's text may begin with `!`, which negates it, and then with `/`, which anchors it, and may end
+//! with `/`, so that only directories match. Between stand 1 to 64 parts with a `/` between each two. A part
+//! `**` spans any names; any other part is a list of pieces, each for characters of one name.
+//! [`Pattern::read`] takes exactly these texts, and names the first byte at which another text goes wrong.
+//! [`Pattern::matches`] answers whether a path matches. It takes no memory, and no pattern is exponential.
+#![tactic(auto)]
+
+mod fault;
+mod laws;
+mod part_match;
+mod path_match;
+mod pattern;
+mod pattern_error;
+mod piece;
+mod read_part;
+mod read_parts;
+mod text;
+
+pub use laws::{one_meaning, one_place, pattern_has_no_fault};
+pub use pattern::Pattern;
+pub use pattern_error::{BadPattern, PatternError};
+pub use piece::{Glob, Part, Piece};
+
+#[cfg(test)]
+mod tests;

@@ -1,0 +1,4 @@
+pub mod Deciding
+pub mod ReadingRules
+pub mod Texts
+pub mod Folders

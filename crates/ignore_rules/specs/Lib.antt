@@ -1,0 +1,3 @@
+pub mod Vcs
+pub mod Rules
+pub mod Refusals
