@@ -1,0 +1,4 @@
+pub mod History
+pub mod Tickets
+pub mod Steps
+pub mod Passes
