@@ -1,4 +1,10 @@
 pub mod Atom
+pub mod Copying
 pub mod Digest
+pub mod Entry
 pub mod ProblemKind
+pub mod Prune
+pub mod Side
 pub mod Text
+pub mod Tree
+pub mod Walk

@@ -1,7 +1,9 @@
 // What a session sees at a path.
 ghost use Rattle.std.specs.Prelude.{◌≡◌, IfOk};
+ghost use Rattle.entry_tree.specs.Atom.{is_dir, is_tracked, same_atom};
 
 use crate::digest::Digest;
+use crate::node::Node;
 use crate::problem_kind::ProblemKind;
 use crate::text::Text;
 use std::alloc::{AllocError, Global};
@@ -36,5 +38,52 @@ impl Atom {
             Atom::Untracked => Ok(Atom::Untracked),
             Atom::Problem(kind) => Ok(Atom::Problem(*kind)),
         }
+    }
+
+    /// Whether this is a folder.
+    pub fn is_dir(&self) -> bool
+        ensures { result ≡ is_dir self.now }
+    {
+        match self {
+            Atom::Dir => true,
+            Atom::File(_) => false,
+            Atom::Link(_) => false,
+            Atom::Untracked => false,
+            Atom::Problem(_) => false,
+        }
+    }
+
+    /// Whether this is a folder, a file or a link, which sessions carry.
+    pub fn is_tracked(&self) -> bool
+        ensures { result ≡ is_tracked self.now }
+    {
+        match self {
+            Atom::Dir => true,
+            Atom::File(_) => true,
+            Atom::Link(_) => true,
+            Atom::Untracked => false,
+            Atom::Problem(_) => false,
+        }
+    }
+
+    /// Whether the two are the same, as `==` tells. Cost: the length of the texts of two links.
+    pub fn is_same(&self, other: &Atom) -> bool
+        ensures { result ≡ same_atom self.now other.now }
+    {
+        self == other
+    }
+}
+
+impl Node for Atom {
+    ghost use Rattle.entry_tree.specs.Atom.{is_dir};
+
+    ghost is_folder = { is_dir };
+
+    fn is_dir(&self) -> bool {
+        Atom::is_dir(self)
+    }
+
+    fn copy(&self, alloc: Global) -> Result<Atom, AllocError> {
+        Atom::copy(self, alloc)
     }
 }

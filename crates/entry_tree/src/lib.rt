@@ -7,15 +7,32 @@
 
 mod atom;
 mod digest;
+mod entry;
+mod names;
+mod node;
 mod problem_kind;
+mod prune;
+mod put;
+mod side;
 mod spelling;
 mod text;
+mod tree;
+mod tree_error;
+mod walk;
 
 pub use atom::Atom;
 pub use digest::Digest;
+pub use entry::{Entry, Stamp};
+pub use node::Node;
 pub use problem_kind::ProblemKind;
+pub use side::Side;
 pub use spelling::text_of;
 pub use text::{Text, TextError};
+pub use tree::{Tree, TreeOf};
+pub use tree_error::TreeError;
+pub use walk::Under;
 
 #[cfg(test)]
 mod tests;
+#[cfg(test)]
+mod tree_tests;

@@ -1,0 +1,11 @@
+-- Which entries are folders.
+use Rattle.std.specs.Prelude.{Bool, true, false}
+use Rattle.entry_tree.specs.declared.entry.Entry.{Entry}
+use Rattle.entry_tree.specs.declared.entry.Entry.TheVariants.{Dir, File, Link, Other}
+
+-- whether an entry is a folder
+abbrev pub is_dir : Entry → Bool
+is_dir Dir = true
+is_dir (File stamp) = false
+is_dir (Link text) = false
+is_dir Other = false
