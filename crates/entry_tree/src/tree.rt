@@ -87,7 +87,7 @@ impl<T: Node> TreeOf<T> {
     /// It is refused where the path's parent holds nothing or no folder; the root has no parent. After an
     /// `Err` the tree is as it was. Where the tree holds something at the path already, it takes no memory.
     ///
-    /// Cost: O(log n) comparisons of paths, and as many for each entry that is taken away.
+    /// Cost: O(log n) comparisons of paths; where entries below the path are taken away, one pass over the tree.
     pub fn set(&mut self, alloc: Global, path: &Path, node: T) -> Result<(), TreeError>
         ensures ok { OnOk result (self.new ≡ set_at T.is_folder self.old path.now node) }
         ensures allowed { OnOk result (refusal T.is_folder (at_parent self.old path.now) ≡ None) }
@@ -109,7 +109,7 @@ impl<T: Node> TreeOf<T> {
 
     /// Takes away all at and below the path. It takes no memory.
     ///
-    /// Cost: O(log n) comparisons of paths, and as many for each entry that is taken away.
+    /// Cost: O(log n) comparisons of paths where nothing stands there, else one pass over the tree.
     pub fn remove_under(&mut self, path: &Path)
         ensures { self.new ≡ without_under self.old path.now }
     {
