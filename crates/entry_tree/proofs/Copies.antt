@@ -1,17 +1,17 @@
 -- What a map holds once entries in order were put into it.
-use Rattle.std.proofs.Common.{◌≡◌, Bool, true, false, cond, ◌&&◌, List, [], ◌∷◌, refl, sym, ap, subst, ◌∙◌, Option, Some, None, Ordering}
+use Rattle.std.proofs.Common.{◌≡◌, Bool, true, false, cond, ◌&&◌, List, [], ◌∷◌, refl, sym, ap, ◌∙◌, Option, Some, None, Ordering}
 use Rattle.std.specs.Prelude.{T}
 use Rattle.std.specs.FinMap as map
 use Rattle.std.specs.FinMap.Entries.{below_all, find-where_key, is_sorted-where_key}
 use Rattle.std.specs.BTreeMap.{BTreeMap, Updates}
-use Rattle.std.specs.List.{filter}
 use Rattle.std.specs.Ordering.{is_lt, is_eq, eq_by_cmp}
 use Rattle.std.specs.declared.cmp.Ordering.TheVariants.{Less, Equal, Greater}
 use Rattle.sync_path.specs.Path.{path_cmp, is_under}
 use Rattle.sync_path.specs.PathOrder.{path_cmp_total}
 use Rattle.entry_tree.specs.Tree.{Names, ByPath, entries_under}
 use Rattle.entry_tree.specs.Copying.{put_all}
-use Rattle.entry_tree.proofs.Maps.{alike, insert-from_tree}
+use Rattle.finite_maps.proofs.TreeMaps.{insert-from_tree}
+use Rattle.entry_tree.proofs.Maps.{alike}
 use Rattle.entry_tree.proofs.Paths.{path_same, tied}
 
 first : (a b : Bool) → T (a && b) → T a
@@ -22,7 +22,7 @@ second : (a b : Bool) → T (a && b) → T b
 second true b p = p
 second false b p = absurd p
 
-abbrev or_else : {X : Type 0} → Option X → Option X → Option X
+abbrev pub or_else : {X : Type 0} → Option X → Option X → Option X
 or_else None o = o
 or_else (Some x) o = Some x
 

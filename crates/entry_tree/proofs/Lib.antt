@@ -1,8 +1,10 @@
 pub mod Children
 pub mod Copies
 pub mod Maps
+pub mod Parts
 pub mod Paths
 pub mod Pruning
 pub mod Setting
 pub mod Trees
 pub mod Walks
+pub mod Words

@@ -1,12 +1,12 @@
--- What lies at and below a path is an interval of path order.
-use Rattle.std.proofs.Common.{◌≡◌, ◌⊎◌, inl, inr, ℕ, Bool, true, false, cond, not, ◌&&◌, List, [], ◌∷◌, ◌++◌, bytes_eq, refl, sym, ap, subst, ◌∙◌, Option, Some, None, Ordering}
+-- How paths lie to one another, and what lies below one.
+use Rattle.std.proofs.Common.{◌≡◌, ℕ, Bool, true, false, ◌&&◌, List, [], ◌∷◌, ◌++◌, bytes_eq, refl, sym, ap, ◌∙◌, Ordering}
 use Rattle.std.specs.FinMap.{IsAntisymmetric, nat_cmp-IsAntisymmetric, slice_cmp-IsAntisymmetric}
-use Rattle.std.specs.Cmp.{IsTotalOrder, tied_itself}
+use Rattle.std.specs.Cmp.{tied_itself}
 use Rattle.std.specs.Cmp.Lexicographic.{slice_cmp, nat_list_cmp_total, texts_ties}
-use Rattle.std.specs.Ordering.{nat_cmp, is_eq, is_lt, is_le, is_gt, eq_by_cmp, ordering_then, ordering_reverse}
+use Rattle.std.specs.Ordering.{nat_cmp, is_eq, is_gt, is_lt, is_le, ordering_then}
 use Rattle.std.specs.declared.cmp.Ordering.TheVariants.{Less, Equal, Greater}
 use Rattle.sync_path.specs.Path.{path_cmp, is_under}
-use Rattle.sync_path.specs.PathOrder.{path_cmp_total}
+use Rattle.sync_path.proofs.Intervals.{path_cmp_exact, under_is_behind, between_is_under}
 use Rattle.entry_tree.specs.Tree.{Names, is_below}
 
 -- only equal names tie, and only equal paths
@@ -14,17 +14,7 @@ pub name_same : IsAntisymmetric (slice_cmp nat_cmp)
 name_same = slice_cmp-IsAntisymmetric nat_cmp-IsAntisymmetric
 
 pub path_same : IsAntisymmetric path_cmp
-path_same = slice_cmp-IsAntisymmetric name_same
-
-then_less : (r s : Ordering) → ordering_then r s ≡ Less → (r ≡ Less) ⊎ ((r ≡ Equal) × (s ≡ Less))
-then_less Less s h = inl refl
-then_less Equal s h = inr (refl, h)
-then_less Greater s h = absurd (cc)
-
-then_le : (r s : Ordering) → is_le (ordering_then r s) ≡ true → (r ≡ Less) ⊎ ((r ≡ Equal) × (is_le s ≡ true))
-then_le Less s h = inl refl
-then_le Equal s h = inr (refl, h)
-then_le Greater s h = absurd (cc)
+path_same = path_cmp_exact
 
 pub both_true : (a b : Bool) → (a && b) ≡ true → (a ≡ true) × (b ≡ true)
 both_true true b h = (refl, h)
@@ -45,43 +35,28 @@ name_is a b h = name_same a b (name_tie a b h)
 pub name_itself : (a : List ℕ) → bytes_eq a a ≡ true
 name_itself a = texts_ties a a ∙ ap is_eq (tied_itself nat_list_cmp_total a)
 
+-- a path lies under itself
+pub under_itself : (p : Names) → is_under p p ≡ true
+under_itself [] = refl
+under_itself (x ∷ p) = ap (λ b. b && is_under p p) (name_itself x) ∙ under_itself p
+
+le_is : (r : Ordering) → is_gt r ≡ false → is_le r ≡ true
+le_is Less h = refl
+le_is Equal h = refl
+le_is Greater h = absurd (cc)
+
+not_gt : (r : Ordering) → is_le r ≡ true → is_gt r ≡ false
+not_gt Less h = refl
+not_gt Equal h = refl
+not_gt Greater h = absurd (cc)
+
 -- a path is not above what lies under it
 pub under_le : (k p : Names) → is_under k p ≡ true → is_le (path_cmp p k) ≡ true
-under_le [] [] h = refl
-under_le (y ∷ k) [] h = refl
-under_le [] (n ∷ p) h = absurd (cc)
-under_le (y ∷ k) (n ∷ p) h =
-    let parts = both_true (bytes_eq n y) (is_under k p) h in
-    ap (λ r. is_le (ordering_then r (path_cmp p k))) (name_tie n y parts.0) ∙ under_le k p parts.1
-
-not_itself : (a : List ℕ) → slice_cmp nat_cmp a a ≡ Less → ⊥
-not_itself a h = let e : Less ≡ Equal = sym h ∙ tied_itself nat_list_cmp_total a in absurd (cc)
+under_le k p h = le_is (path_cmp p k) (under_is_behind p k h)
 
 -- between a path and what lies under it, all lies under it
 pub under_between : (p a b : Names) → is_le (path_cmp p a) ≡ true → path_cmp a b ≡ Less → is_under b p ≡ true → is_under a p ≡ true
-under_between [] [] b le lt h = refl
-under_between [] (x ∷ a) b le lt h = refl
-under_between (n ∷ p) [] b le lt h = absurd (cc)
-under_between (n ∷ p) (x ∷ a) [] le lt h = absurd (cc)
-under_between (n ∷ p) (x ∷ a) (y ∷ b) le lt h =
-    let parts = both_true (bytes_eq n y) (is_under b p) h in
-    let n_is_y : n ≡ y = name_is n y parts.0 in
-    let low = then_le (slice_cmp nat_cmp n x) (path_cmp p a) le in
-    let high = then_less (slice_cmp nat_cmp x y) (path_cmp a b) lt in
-    elim low [
-      | inl n_less ↦ elim high [
-        | inl x_less ↦ absurd (not_itself n (nat_list_cmp_total.trans n x n n_less (ap (slice_cmp nat_cmp x) n_is_y ∙ x_less)))
-        | inr x_tie ↦ absurd (not_itself n (ap (slice_cmp nat_cmp n) (n_is_y ∙ sym (name_same x y x_tie.0)) ∙ n_less))
-      ]
-      | inr n_tie ↦
-          let n_is_x : n ≡ x = name_same n x n_tie.0 in
-          elim high [
-            | inl x_less ↦ absurd (not_itself x (ap (slice_cmp nat_cmp x) (sym n_is_x ∙ n_is_y) ∙ x_less))
-            | inr x_tie ↦
-                let first : bytes_eq n x ≡ true = ap (bytes_eq n) (sym n_is_x) ∙ name_itself n in
-                ap (λ c. c && is_under a p) first ∙ under_between p a b n_tie.1 x_tie.1 parts.1
-          ]
-    ]
+under_between p a b le lt h = between_is_under p p a b (under_itself p) h (not_gt (path_cmp p a) le) (ap is_gt lt)
 
 and_false : (a : Bool) → false ≡ (a && false)
 and_false true = refl

@@ -6,7 +6,8 @@ use Rattle.std.specs.List.{filter}
 use Rattle.sync_path.specs.Path.{path_cmp}
 use Rattle.sync_path.specs.PathOrder.{path_cmp_total}
 use Rattle.entry_tree.specs.Tree.{Names, ByPath, is_below, set_at}
-use Rattle.entry_tree.proofs.Maps.{insert-from_tree, retain-from_filter}
+use Rattle.finite_maps.proofs.TreeMaps.{insert-from_tree}
+use Rattle.entry_tree.proofs.Maps.{retain-from_filter}
 use Rattle.entry_tree.proofs.Paths.{path_same}
 use Rattle.entry_tree.proofs.Trees.{set_as_folder, set_as_leaf}
 

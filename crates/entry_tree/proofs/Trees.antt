@@ -1,17 +1,16 @@
 -- Trees stay closed under parents.
-use Rattle.std.proofs.Common.{◌≡◌, ◌⊎◌, inl, inr, ℕ, Bool, true, false, cond, not, ◌&&◌, ◌||◌, List, [], ◌∷◌, ◌++◌, refl, sym, ap, subst, ◌∙◌, Option, Some, None, IsTrue, Bor}
+use Rattle.std.proofs.Common.{◌≡◌, ◌⊎◌, inl, inr, ℕ, Bool, true, false, cond, not, ◌||◌, List, [], ◌∷◌, ◌++◌, refl, sym, ap, ◌∙◌, Option, Some, None, Bor}
 use Rattle.std.specs.FinMap as map
 use Rattle.std.specs.Option.{is_some, option_map, option_copied}
-use Rattle.std.specs.Ordering.{eq_by_cmp, is_eq}
-use Rattle.std.specs.Cmp.{tied_itself}
+use Rattle.std.specs.Ordering.{eq_by_cmp}
 use Rattle.sync_path.specs.Path.{path_cmp, is_under, parent_of}
 use Rattle.sync_path.specs.PathOrder.{path_cmp_total}
-use Rattle.entry_tree.specs.Tree.{Names, ByPath, is_below, holds_folder, IsClosed, set_at, without_under, without_below, at_parent, refusal}
-use Rattle.entry_tree.specs.declared.tree_error.TreeError.TheVariants.{NoParent, NotDir}
+use Rattle.entry_tree.specs.Tree.{Names, ByPath, is_below, holds_folder, IsClosed, set_at, without_below, at_parent, refusal}
+use Rattle.entry_tree.specs.declared.tree_error.TreeError.TheVariants.{NotDir}
 use Rattle.entry_tree.proofs.Maps.{alike}
 use Rattle.entry_tree.proofs.Paths.{path_same, tied, under_child, below_child, child_below, not_below_child, not_below_itself}
 
-no_true : (b : Bool) → b ≡ true → b ≡ false → ⊥
+pub no_true : (b : Bool) → b ≡ true → b ≡ false → ⊥
 no_true b h g = let e : true ≡ false = sym h ∙ g in absurd (cc)
 
 -- the parent of a child
@@ -28,7 +27,7 @@ kept : {X : Type 0} (b : Bool) (o : Option X) → is_some (cond b o None) ≡ tr
 kept true o h = (refl, h)
 kept false o h = absurd (not_true h)
 
-tie_is : (q p : Names) → eq_by_cmp path_cmp q p ≡ true → q ≡ p
+pub tie_is : (q p : Names) → eq_by_cmp path_cmp q p ≡ true → q ≡ p
 tie_is q p h = path_same q p (tied (path_cmp q p) h)
 
 apart_child : (q : Names) (n : List ℕ) → eq_by_cmp path_cmp q (q ++ n ∷ []) ≡ false

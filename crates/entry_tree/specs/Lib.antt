@@ -1,4 +1,5 @@
 pub mod Atom
+pub mod AtomText
 pub mod Copying
 pub mod Digest
 pub mod Entry

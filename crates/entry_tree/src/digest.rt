@@ -1,8 +1,11 @@
 // The digest of a file's content.
-ghost use Rattle.std.specs.Prelude.{◌≡◌, ◌==◌};
+ghost use Rattle.std.specs.Prelude.{◌≡◌, ◌==◌, IfSome, is_some};
 ghost use Rattle.entry_tree.specs.Digest.{IsDigest};
+ghost use Rattle.entry_tree.specs.AtomText.{is_digest_text};
+ghost use Rattle.hex.specs.Hex.{encode_lower};
 ghost use Rattle.sha2.specs.Sha256.{sha256};
 
+use hex::FromHex;
 use sha2::Sha256;
 use std::marker::Model;
 
@@ -29,6 +32,25 @@ impl Digest {
     {
         Digest {
             bytes: <Sha256 as sha2::Digest>::digest(bytes),
+        }
+    }
+
+    /// The digest that these 64 lower-case hexadecimal digits spell; none where the text is another.
+    pub fn read(digits: &str) -> Option<Digest>
+        ensures value { IfSome result (λ digest. encode_lower digest ≡ digits.now) }
+        ensures found { is_some result ≡ is_digest_text digits.now }
+    {
+        let Ok(bytes) = <[u8; 32] as FromHex>::from_hex(digits) else {
+            return None;
+        };
+        let mut spelt = [0; 64];
+        if hex::encode_to_slice(&bytes, &mut spelt).is_err() {
+            return None;
+        }
+        if spelt.as_slice() == digits.as_bytes() {
+            Some(Digest { bytes })
+        } else {
+            None
         }
     }
 

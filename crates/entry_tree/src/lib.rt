@@ -6,6 +6,7 @@
 #![tactic(auto)]
 
 mod atom;
+mod atom_error;
 mod digest;
 mod entry;
 mod names;
@@ -13,6 +14,7 @@ mod node;
 mod problem_kind;
 mod prune;
 mod put;
+mod reading;
 mod side;
 mod spelling;
 mod text;
@@ -21,10 +23,12 @@ mod tree_error;
 mod walk;
 
 pub use atom::Atom;
+pub use atom_error::{AtomError, BadAtom};
 pub use digest::Digest;
 pub use entry::{Entry, Stamp};
 pub use node::Node;
 pub use problem_kind::ProblemKind;
+pub use reading::read_atom;
 pub use side::Side;
 pub use spelling::text_of;
 pub use text::{Text, TextError};

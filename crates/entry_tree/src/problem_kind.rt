@@ -1,5 +1,7 @@
 // Why a file's content was not seen.
-ghost use Rattle.std.specs.Prelude.{◌≡◌};
+ghost use Rattle.std.specs.Prelude.{◌≡◌, IfSome, is_some};
+ghost use Rattle.std.specs.Fmt.{decimal};
+ghost use Rattle.entry_tree.specs.AtomText.{is_problem_text};
 ghost use Rattle.entry_tree.specs.ProblemKind.{problem_number};
 
 /// Why a scan did not see the content of a file that it found.
@@ -14,6 +16,23 @@ pub enum ProblemKind {
 }
 
 impl ProblemKind {
+    /// The kind whose number this is; none where the text is another.
+    pub fn read(digit: &str) -> Option<ProblemKind>
+        ensures value { IfSome result (λ kind. decimal (problem_number kind) ≡ digit.now) }
+        ensures found { is_some result ≡ is_problem_text digit.now }
+    {
+        if digit == "1" {
+            return Some(ProblemKind::Changed);
+        }
+        if digit == "2" {
+            return Some(ProblemKind::TooLarge);
+        }
+        if digit == "3" {
+            return Some(ProblemKind::Failed);
+        }
+        None
+    }
+
     /// The number that stands for it in text, from 1 to 3.
     pub fn number(self) -> u8
         ensures { result ≡ problem_number self }

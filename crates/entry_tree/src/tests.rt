@@ -1,4 +1,4 @@
-use crate::{Atom, Digest, ProblemKind, Text, TextError, text_of};
+use crate::{Atom, AtomError, Digest, ProblemKind, Text, TextError, read_atom, text_of};
 use std::alloc::{AllocError, Global};
 use std::test::Fail;
 
@@ -87,6 +87,58 @@ fn a_text_has_1_to_4096_bytes(rt: HostRuntime) -> Result<(), Fail> {
             }
             None => assert!(rt; !good, "{times} times {piece}"),
         }
+    }
+    Ok(())
+}
+
+// The place at which a text is bad, or none where it is an atom that is written as the same text.
+fn bad_place(alloc: Global, text: &str) -> Result<Option<u32>, AllocError> {
+    match read_atom(alloc, text) {
+        Ok(atom) => {
+            if text_of(alloc, &atom)?.as_str() == text {
+                Ok(None)
+            } else {
+                Err(AllocError)
+            }
+        }
+        Err(AtomError::Bad(bad)) => Ok(Some(bad.place)),
+        Err(AtomError::Memory) => Err(AllocError),
+    }
+}
+
+#[test]
+fn a_text_is_an_atom_or_bad_at_one_place(rt: HostRuntime) -> Result<(), Fail> {
+    let alloc = rt.alloc();
+    let cases = [
+        ("dir", None),
+        (
+            "file ba7816bf8f01cfea414140de5dae2223b00361a396177a9cb410ff61f20015ad",
+            None,
+        ),
+        ("link =a b", None),
+        ("problem 3", None),
+        ("", Some(0)),
+        ("dirs", Some(0)),
+        ("dir ", Some(4)),
+        ("untracked dir", Some(10)),
+        ("file", Some(4)),
+        ("file 00", Some(5)),
+        (
+            "file BA7816bf8f01cfea414140de5dae2223b00361a396177a9cb410ff61f20015ad",
+            Some(5),
+        ),
+        (
+            "file ba7816bf8f01cfea414140de5dae2223b00361a396177a9cb410ff61f20015ad ",
+            Some(70),
+        ),
+        ("link a", Some(5)),
+        ("link =", Some(5)),
+        ("problem", Some(7)),
+        ("problem 4", Some(8)),
+        ("problem 1 2", Some(10)),
+    ];
+    for (text, place) in cases {
+        assert_eq!(rt; bad_place(alloc, text)?, place, "{text}");
     }
     Ok(())
 }

@@ -75,6 +75,10 @@ fn walks_are_in_path_order_and_removals_take_what_is_below(rt: HostRuntime) -> R
     assert_eq!(rt; names(alloc, &tree, &a)?.as_str(), "b z ");
     assert_eq!(rt; names(alloc, &tree, &root)?.as_str(), "a a-b ab ");
     assert!(rt; tree.has_below(&a));
+    let part = tree.part(alloc, &Path::read(alloc, "a/b")?)?;
+    assert_eq!(rt; paths(alloc, &part)?.as_str(), " a a/b a/b/c ");
+    let above = tree.folders_above(alloc, &Path::read(alloc, "a/b")?)?;
+    assert_eq!(rt; paths(alloc, &above)?.as_str(), " a ");
     let mut copy = tree.copy(alloc)?;
     tree.set(alloc, &a, Atom::Link(Text::read(alloc, "ab")?))?;
     assert_eq!(rt; paths(alloc, &tree)?.as_str(), " a a-b ab ");

@@ -1,4 +1,4 @@
-use Rattle.std.proofs.Common.{◌≡◌, ◌+◌, true, false, length, sym, ap, ◌∙◌, Some, None, rules, arith}
+use Rattle.std.proofs.Common.{◌≡◌, ◌+◌, true, false, length, sym, ap, ◌∙◌, Some, None, rules}
 use Rattle.sync_path.specs.Path.{is_under, last_name}
 use Rattle.entry_tree.proofs.Children.{name_is_last, no_name_by_depth, no_name_aside}
 use Rattle.entry_tree.proofs.names.child_name.Goals as goal

@@ -1,4 +1,4 @@
-use Rattle.std.proofs.Common.{◌∙◌, sym, rules}
+use Rattle.std.proofs.Common.{rules}
 use Rattle.entry_tree.proofs.Paths.{below_is}
 use Rattle.entry_tree.proofs.prune.is_strictly_under.Goals as goal
 

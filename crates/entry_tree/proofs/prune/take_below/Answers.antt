@@ -1,4 +1,4 @@
-use Rattle.std.proofs.Common.{not, rules, sym, ◌∙◌}
+use Rattle.std.proofs.Common.{not, rules}
 use Rattle.entry_tree.specs.Tree.{is_below}
 use Rattle.std.proofs.lemmas.Map.Made.{filter_same_pairs}
 use Rattle.entry_tree.proofs.Pruning.{stays_below}

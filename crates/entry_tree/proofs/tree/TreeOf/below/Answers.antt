@@ -1,11 +1,10 @@
 use Rattle.std.proofs.Common.{ap, sym, ◌∙◌, refl}
-use Rattle.std.specs.FinMap as map
 use Rattle.std.specs.List.{filter}
 use Rattle.std.specs.declared.ops.Bound.TheVariants.{Excluded}
 use Rattle.entry_tree.specs.Tree.{is_below}
 use Rattle.sync_path.specs.PathOrder.{path_cmp_total}
 use Rattle.entry_tree.specs.Tree.{entries_below}
-use Rattle.entry_tree.proofs.Maps.{entries-from_tree}
+use Rattle.finite_maps.proofs.TreeMaps.{entries-from_tree}
 use Rattle.entry_tree.proofs.Paths.{path_same}
 use Rattle.entry_tree.proofs.Walks.{walk_meets, met_below}
 use Rattle.entry_tree.proofs.tree.TreeOf.below.Goals as goal

@@ -1,8 +1,7 @@
 use Rattle.std.proofs.Common.{ap, sym, ◌∙◌}
 use Rattle.std.specs.FinMap as map
 use Rattle.sync_path.specs.PathOrder.{path_cmp_total}
-use Rattle.entry_tree.proofs.Maps.{get-from_tree}
-use Rattle.entry_tree.proofs.Walks.{forward}
+use Rattle.finite_maps.proofs.TreeMaps.{get-from_tree}
 use Rattle.entry_tree.proofs.tree.TreeOf.get.Goals as goal
 
 pub returns-clause-value : goal.returns-clause-value

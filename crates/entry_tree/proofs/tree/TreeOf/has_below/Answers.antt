@@ -1,4 +1,4 @@
-use Rattle.std.proofs.Common.{sym, subst, ◌∙◌}
+use Rattle.std.proofs.Common.{subst, ◌∙◌}
 use Rattle.std.specs.FinMap as map
 use Rattle.std.specs.Map.Iter.{TakesFirst, deref_pair}
 use Rattle.entry_tree.specs.Tree.{is_below}

@@ -1,7 +1,7 @@
 use Rattle.std.proofs.Common.{ap, sym, subst, ◌∙◌, ◌<◌, ◌^◌, ℕ}
 use Rattle.std.specs.FinMap as map
 use Rattle.sync_path.specs.PathOrder.{path_cmp_total}
-use Rattle.entry_tree.proofs.Maps.{entries-from_tree, len-from_tree}
+use Rattle.finite_maps.proofs.TreeMaps.{entries-from_tree, len-from_tree}
 use Rattle.entry_tree.proofs.Paths.{path_same}
 use Rattle.entry_tree.proofs.tree.TreeOf.iter.Goals as goal
 

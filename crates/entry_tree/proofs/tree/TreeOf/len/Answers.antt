@@ -1,9 +1,8 @@
 use Rattle.std.proofs.Common.{ap, sym, ◌∙◌}
 use Rattle.std.specs.FinMap as map
 use Rattle.sync_path.specs.PathOrder.{path_cmp_total}
-use Rattle.entry_tree.proofs.Maps.{len-from_tree}
+use Rattle.finite_maps.proofs.TreeMaps.{len-from_tree}
 use Rattle.entry_tree.proofs.Paths.{path_same}
-use Rattle.entry_tree.proofs.Walks.{walk_meets}
 use Rattle.entry_tree.proofs.tree.TreeOf.len.Goals as goal
 
 pub returns-clause-count : goal.returns-clause-count

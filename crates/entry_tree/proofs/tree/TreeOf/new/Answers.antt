@@ -1,4 +1,4 @@
-use Rattle.std.proofs.Common.{ap, sym, subst, ◌∙◌}
+use Rattle.std.proofs.Common.{ap, sym, subst}
 use Rattle.std.specs.FinMap as map
 use Rattle.entry_tree.specs.Tree.{IsClosed}
 use Rattle.entry_tree.proofs.Trees.{closed_empty}

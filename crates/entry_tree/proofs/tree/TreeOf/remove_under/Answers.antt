@@ -1,6 +1,6 @@
 use Rattle.std.proofs.Common.{List, ℕ, Bool, not, ap, sym, subst, ◌∙◌}
 use Rattle.std.specs.FinMap as map
-use Rattle.sync_path.specs.Path.{is_under, path_cmp}
+use Rattle.sync_path.specs.Path.{is_under}
 use Rattle.sync_path.specs.PathOrder.{path_cmp_total}
 use Rattle.entry_tree.specs.Tree.{IsClosed}
 use Rattle.entry_tree.proofs.Maps.{retain-from_filter}

@@ -5,7 +5,7 @@ use Rattle.std.specs.BTreeMap as tree
 use Rattle.sync_path.specs.Path.{path_cmp}
 use Rattle.sync_path.specs.PathOrder.{path_cmp_total}
 use Rattle.entry_tree.specs.Tree.{IsClosed, set_at, refusal, at_parent}
-use Rattle.entry_tree.proofs.Maps.{get-from_tree}
+use Rattle.finite_maps.proofs.TreeMaps.{get-from_tree}
 use Rattle.entry_tree.proofs.Setting.{folder_set, leaf_set}
 use Rattle.entry_tree.proofs.Trees.{closed_set}
 use Rattle.entry_tree.proofs.tree.TreeOf.set.Goals as goal
