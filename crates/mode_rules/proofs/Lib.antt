@@ -1,0 +1,4 @@
+pub mod PathKeys
+pub mod PathSets
+pub mod PlanParts
+pub mod PlanLaws

@@ -1,0 +1,6 @@
+pub mod Trees
+pub mod Verdicts
+pub mod Plans
+pub mod Halts
+pub mod Sights
+pub mod Laws

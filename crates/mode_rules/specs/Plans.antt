@@ -1,0 +1,108 @@
+-- The table over paths: what each decision gives, and the plan of all of them.
+use Rattle.std.specs.Prelude.{◌≡◌, ℕ, Bool, true, false, not, List, [], ◌∷◌, Option, Some, None, if◌then◌else◌, is_some}
+use Rattle.std.specs.List.{filter, filter_map}
+use Rattle.std.specs.Option.{option_map}
+use Rattle.std.specs.FinMap as trees
+use Rattle.entry_tree.specs.Tree.{Names, ByPath, part, folders_above}
+use Rattle.entry_tree.specs.declared.atom.Atom.{Atom}
+use Rattle.entry_tree.specs.declared.side.Side.TheVariants.{Alpha, Beta}
+use Rattle.mode_rules.specs.declared.mode.Mode.{Mode}
+use Rattle.mode_rules.specs.declared.conflict.Conflict.{Conflict}
+use Rattle.mode_rules.specs.declared.conflict.Reason.{Reason}
+use Rattle.mode_rules.specs.declared.conflict.Reason.TheVariants as reasons
+use Rattle.mode_rules.specs.declared.plan.Change.{Change}
+use Rattle.mode_rules.specs.declared.plan.AncestorLine.{AncestorLine}
+use Rattle.mode_rules.specs.declared.plan.AncestorLine.TheVariants as lines
+use Rattle.mode_rules.specs.declared.plan.Plan.{Plan}
+use Rattle.mode_rules.specs.declared.verdict.Verdict.{Verdict}
+use Rattle.mode_rules.specs.declared.verdict.Verdict.TheVariants as verdicts
+use Rattle.mode_rules.specs.Trees.{Trees, paths_of, is_point, differing, same_there}
+use Rattle.mode_rules.specs.Verdicts.{verdict}
+use Rattle.mode_rules.specs.Halts.{halt_of}
+
+-- alpha at and below the path becomes this
+abbrev pub change_alpha : Trees → Names → ByPath Atom → Change
+change_alpha t path new = record { side = Alpha; at = path; old = part t.alpha path; new = new }
+
+-- beta at and below the path becomes this
+abbrev pub change_beta : Trees → Names → ByPath Atom → Change
+change_beta t path new = record { side = Beta; at = path; old = part t.beta path; new = new }
+
+-- the change that a decision makes
+abbrev pub change_by : Trees → Names → Verdict → Option Change
+change_by t path verdicts.AlphaTakes = Some (change_alpha t path (part t.beta path))
+change_by t path verdicts.AlphaEmptied = Some (change_alpha t path (folders_above t.alpha path))
+change_by t path verdicts.BetaTakes = Some (change_beta t path (part t.alpha path))
+change_by t path verdicts.BetaEmptied = Some (change_beta t path (folders_above t.beta path))
+change_by t path verdicts.Left = None
+change_by t path verdicts.Blocked = None
+change_by t path verdicts.Gone = None
+change_by t path verdicts.Agreed = None
+change_by t path verdicts.BetaKeeps = None
+change_by t path verdicts.Both = None
+
+-- the line by which the ancestor drops all at and below the path, where it holds something there
+abbrev pub dropped : Trees → Names → Option AncestorLine
+dropped t path = if is_some (trees.get t.ancestor path) then Some (lines.Drop path) else None
+
+-- the line by which the ancestor takes what both sides hold at the path, where it doesn't hold it
+abbrev pub taken : Trees → Names → Option AncestorLine
+taken t path =
+    if same_there (trees.get t.ancestor path) (trees.get t.alpha path) then None
+    else option_map (lines.Set path) (trees.get t.alpha path)
+
+-- the ancestor's line that a decision writes
+abbrev pub line_by : Trees → Names → Verdict → Option AncestorLine
+line_by t path verdicts.Gone = dropped t path
+line_by t path verdicts.BetaKeeps = dropped t path
+line_by t path verdicts.Agreed = taken t path
+line_by t path verdicts.Left = None
+line_by t path verdicts.Blocked = None
+line_by t path verdicts.AlphaTakes = None
+line_by t path verdicts.BetaTakes = None
+line_by t path verdicts.AlphaEmptied = None
+line_by t path verdicts.BetaEmptied = None
+line_by t path verdicts.Both = None
+
+-- a conflict, with the paths at which each side differs from the ancestor
+abbrev pub conflict : Trees → Names → Reason → Conflict
+conflict t path reason =
+    record { at = path; reason = reason; alpha = differing t t.alpha path; beta = differing t t.beta path }
+
+-- the conflict that a decision reports
+abbrev pub conflict_by : Trees → Names → Verdict → Option Conflict
+conflict_by t path verdicts.Blocked = Some (conflict t path reasons.Blocked)
+conflict_by t path verdicts.Both = Some (conflict t path reasons.Both)
+conflict_by t path verdicts.Left = None
+conflict_by t path verdicts.Gone = None
+conflict_by t path verdicts.Agreed = None
+conflict_by t path verdicts.AlphaTakes = None
+conflict_by t path verdicts.BetaTakes = None
+conflict_by t path verdicts.AlphaEmptied = None
+conflict_by t path verdicts.BetaEmptied = None
+conflict_by t path verdicts.BetaKeeps = None
+
+-- the paths that are decided, in path order
+abbrev pub points_of : Trees → List Names
+points_of t = filter (is_point t) (paths_of t)
+
+-- what is decided at a path makes this change
+unfoldable pub change_at : Mode → Trees → Names → Option Change
+change_at mode t path = change_by t path (verdict mode t path)
+
+-- it writes this line of the ancestor
+unfoldable pub line_at : Mode → Trees → Names → Option AncestorLine
+line_at mode t path = line_by t path (verdict mode t path)
+
+-- it reports this conflict
+unfoldable pub conflict_at : Mode → Trees → Names → Option Conflict
+conflict_at mode t path = conflict_by t path (verdict mode t path)
+
+-- What a cycle is to do: the changes, the ancestor's lines and the conflicts of the paths that are decided, each in path order
+abbrev pub plan_of : Mode → Trees → Plan
+plan_of mode t = record {
+  halt = halt_of mode t (filter_map (change_at mode t) (points_of t));
+  changes = filter_map (change_at mode t) (points_of t);
+  agreed = filter_map (line_at mode t) (points_of t);
+  conflicts = filter_map (conflict_at mode t) (points_of t);
+}

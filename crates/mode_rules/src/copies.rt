@@ -1,0 +1,30 @@
+// Copies of lists.
+ghost use Rattle.std.specs.Prelude.{◌≡◌, IfOk};
+
+use sqlite_items::Items;
+use std::alloc::{AllocError, Global};
+use sync_path::Path;
+
+/// What has an equal copy, if there is memory.
+pub(crate) trait Copied: Drop {
+    /// An equal value.
+    fn copied(&self, alloc: Global) -> Result<Self, AllocError>
+        ensures { IfOk result (λ copy. copy ≡ self.now) };
+}
+
+impl Copied for Path {
+    fn copied(&self, alloc: Global) -> Result<Path, AllocError> {
+        self.copy(alloc)
+    }
+}
+
+/// The same items.
+pub(crate) fn copied_items<T: Copied>(alloc: Global, items: &[T]) -> Result<Items<T>, AllocError>
+    ensures { IfOk result (λ copies. copies ≡ items.now) }
+{
+    let mut copies = Items::new(alloc);
+    for item in items {
+        copies.push(item.copied(alloc)?)?;
+    }
+    Ok(copies)
+}
