@@ -1,0 +1,12 @@
+use Rattle.std.proofs.Common.{ap, sym, ◌∙◌}
+use Rattle.std.specs.FinMap as map
+use Rattle.sync_path.specs.PathOrder.{path_cmp_total}
+use Rattle.finite_maps.proofs.TreeMaps.{entries-from_tree}
+use Rattle.mode_rules.proofs.PathKeys.{path_same}
+use Rattle.reconcile.proofs.seen_set.SeenSet.iter.Goals as goal
+
+pub returns : goal.returns
+returns c =
+    c.iter.ensures.rest
+    ∙ sym (entries-from_tree path_cmp_total path_same c.self.inside.paths c.iter.ensures.ordered)
+    ∙ ap map.entries c.self.view_is

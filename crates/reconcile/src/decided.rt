@@ -1,0 +1,66 @@
+// What is decided so far.
+ghost use Rattle.std.specs.Prelude.{◌≡◌, ◌++◌, [], OnOk};
+ghost use Rattle.mode_rules.specs.Plans.{change_by, line_by};
+ghost use Rattle.mode_rules.specs.Sights.{trees_of};
+ghost use Rattle.reconcile.specs.Runs.{listed, verdict_in, conflict_by_in};
+
+use crate::runs::{conflict_by_in, verdict_in};
+use crate::seen::Seen;
+use mode_rules::{AncestorLine, Change, Conflict, Mode, Sight, change_by, line_by};
+use sqlite_items::Items;
+use std::alloc::{AllocError, Global};
+use sync_path::Path;
+
+/// The changes, the ancestor's lines and the conflicts of the paths that are decided so far.
+#[derive(Drop)]
+pub(crate) struct Decided {
+    pub(crate) changes: Items<Change>,
+    pub(crate) agreed: Items<AncestorLine>,
+    pub(crate) conflicts: Items<Conflict>,
+}
+
+// Adds the item, if there is one.
+fn add_some<T: Drop>(items: &mut Items<T>, item: Option<T>) -> Result<(), AllocError>
+    ensures ok { OnOk result (items.new ≡ items.old ++ listed item) }
+{
+    if let Some(item) = item {
+        items.push(item)?;
+    }
+    Ok(())
+}
+
+impl Decided {
+    /// Nothing yet. It takes no memory.
+    pub(crate) fn new(alloc: Global) -> Decided
+        ensures { result ≡ record { changes = []; agreed = []; conflicts = [] } }
+    {
+        Decided {
+            changes: Items::new(alloc),
+            agreed: Items::new(alloc),
+            conflicts: Items::new(alloc),
+        }
+    }
+
+    /// Adds what is decided at a path, by the paths of its run.
+    pub(crate) fn add(
+        &mut self,
+        alloc: Global,
+        mode: Mode,
+        sight: &Sight,
+        run: &[Seen],
+        path: &Path,
+    ) -> Result<(), AllocError>
+        ensures changes { OnOk result (self.new.changes ≡ self.old.changes ++ listed (change_by (trees_of sight.now) path.now (verdict_in mode (trees_of sight.now) run.now path.now))) }
+        ensures agreed { OnOk result (self.new.agreed ≡ self.old.agreed ++ listed (line_by (trees_of sight.now) path.now (verdict_in mode (trees_of sight.now) run.now path.now))) }
+        ensures conflicts { OnOk result (self.new.conflicts ≡ self.old.conflicts ++ listed (conflict_by_in (trees_of sight.now) run.now path.now (verdict_in mode (trees_of sight.now) run.now path.now))) }
+    {
+        let verdict = verdict_in(mode, sight, run, path);
+        let change = change_by(alloc, sight, path, verdict)?;
+        let line = line_by(alloc, sight, path, verdict)?;
+        let conflict = conflict_by_in(alloc, sight, run, path, verdict)?;
+        add_some(&mut self.changes, change)?;
+        add_some(&mut self.agreed, line)?;
+        add_some(&mut self.conflicts, conflict)?;
+        Ok(())
+    }
+}
