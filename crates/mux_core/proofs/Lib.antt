@@ -2,3 +2,17 @@ pub mod Pieces
 pub mod StreamTree
 pub mod DataFrames
 pub mod TreeSize
+pub mod Tallies
+pub mod Strands
+pub mod Orders
+pub mod Joints
+pub mod Allowed
+pub mod Pasts
+pub mod DataTold
+pub mod EndSteps
+pub mod CallSteps
+pub mod HearSteps
+pub mod Moves
+pub mod Joined
+pub mod Everywhere
+pub mod Progress

@@ -4,3 +4,7 @@ pub mod Ends
 pub mod Calls
 pub mod Arrivals
 pub mod Answers
+pub mod Worlds
+pub mod Histories
+pub mod Links
+pub mod JoinedLaws
