@@ -2,9 +2,9 @@
 use Rattle.std.proofs.Common.{◌≡◌, ℕ, ◌+◌, Bool, true, false, cond, ◌&&◌, List, [], ◌∷◌, length, bytes_eq, refl, sym, ap, ◌∙◌, Option, Some, None, arith, Bor}
 use Rattle.std.specs.List.{filter, filter_map, cons_option, list_any}
 use Rattle.std.specs.Map.Iter.{TakesFirst}
-use Rattle.std.specs.Option.{is_some}
+use Rattle.std.specs.Option.{is_some, option_map}
 use Rattle.sync_path.specs.Path.{is_under, last_name}
-use Rattle.entry_tree.specs.Tree.{Names, is_below, name_below}
+use Rattle.entry_tree.specs.Tree.{Names, is_below, name_below, child_row}
 use Rattle.entry_tree.proofs.Paths.{both_true}
 
 -- one name deeper than the path that it lies under, a path stands directly below it by its last name
@@ -47,6 +47,16 @@ names_are_below {X} p (e ∷ es) =
     elim (is_below e.0 p) as (λ b. is_below e.0 p ≡ b → names (cond b (e ∷ below) below) ≡ cons_option (name_below e.0 p) (names es)) [
       | true ↦ λ _. ap (cons_option (name_below e.0 p)) (names_are_below p es)
       | false ↦ λ h. names_are_below p es ∙ ap (λ o. cons_option o (names es)) (sym (no_name_above e.0 p h))
+    ] refl
+
+-- the same of all that stands directly below it
+pub rows_are_below : {X : Type 0} (p : Names) (es : List (Names × X)) → filter_map (child_row p) (filter (λ e. is_below e.0 p) es) ≡ filter_map (child_row p) es
+rows_are_below p [] = refl
+rows_are_below {X} p (e ∷ es) =
+    let below = filter (λ (x : Names × X). is_below x.0 p) es in
+    elim (is_below e.0 p) as (λ b. is_below e.0 p ≡ b → filter_map (child_row p) (cond b (e ∷ below) below) ≡ cons_option (child_row p e) (filter_map (child_row p) es)) [
+      | true ↦ λ _. ap (cons_option (child_row p e)) (rows_are_below p es)
+      | false ↦ λ h. rows_are_below p es ∙ ap (λ o. cons_option (option_map (λ name. (name, e.1)) o) (filter_map (child_row p) es)) (sym (no_name_above e.0 p h))
     ] refl
 
 has_first : {A : Type 0} → List A → Bool

@@ -30,6 +30,10 @@ name_below (first ∷ second ∷ path) [] = None
 name_below (first ∷ path) (name ∷ names) = cond (bytes_eq name first) (name_below path names) None
 
 module _ {X : Type 0} where
+  -- what an entry is among those directly below a path, if it stands there: its name and what it holds
+  abbrev pub child_row : Names → Names × X → Option (List ℕ × X)
+  child_row path e = option_map (λ name. (name, e.1)) (name_below e.0 path)
+
   -- the entries at and below a path, in path order
   abbrev pub entries_under : ByPath X → Names → List (Names × X)
   entries_under tree path = filter (λ e. is_under e.0 path) (map.entries tree)
@@ -45,6 +49,10 @@ module _ {X : Type 0} where
   -- the names directly below a path, in the order of their bytes
   abbrev pub names_below : ByPath X → Names → List (List ℕ)
   names_below tree path = filter_map (λ e. name_below e.0 path) (map.entries tree)
+
+  -- what stands directly below a path, each by its name, in the order of the names' bytes
+  abbrev pub children_below : ByPath X → Names → List (List ℕ × X)
+  children_below tree path = filter_map (child_row path) (map.entries tree)
 
   -- the tree without all at and below a path
   abbrev pub without_under : ByPath X → Names → ByPath X

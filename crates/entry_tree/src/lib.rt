@@ -7,6 +7,7 @@
 
 mod atom;
 mod atom_error;
+mod child;
 mod digest;
 mod entry;
 mod names;
@@ -24,6 +25,7 @@ mod walk;
 
 pub use atom::Atom;
 pub use atom_error::{AtomError, BadAtom};
+pub use child::Child;
 pub use digest::Digest;
 pub use entry::{Entry, Stamp};
 pub use node::Node;

@@ -25,7 +25,11 @@ impl<T: Node> TreeOf<T> {
 }
 
 // The name by which a path stands directly below another, if it does.
-fn child_name(alloc: Global, below: &Path, path: &Path) -> Result<Option<Name>, AllocError>
+pub(crate) fn child_name(
+    alloc: Global,
+    below: &Path,
+    path: &Path,
+) -> Result<Option<Name>, AllocError>
     ensures { IfOk result (λ name. name ≡ name_below below.now path.now) }
 {
     if below.depth() != path.depth() + 1 {
