@@ -1,11 +1,13 @@
 -- Trees stay closed under parents.
-use Rattle.std.proofs.Common.{◌≡◌, ◌⊎◌, inl, inr, ℕ, Bool, true, false, cond, not, ◌||◌, List, [], ◌∷◌, ◌++◌, refl, sym, ap, ◌∙◌, Option, Some, None, Bor}
+use Rattle.std.proofs.Common.{◌≡◌, ◌⊎◌, inl, inr, ℕ, Bool, true, false, cond, not, ◌||◌, List, [], ◌∷◌, ◌++◌, append_assoc, refl, sym, ap, ◌∙◌, Option, Some, None, Bor}
 use Rattle.std.specs.FinMap as map
 use Rattle.std.specs.Option.{is_some, option_map, option_copied}
 use Rattle.std.specs.Ordering.{eq_by_cmp}
 use Rattle.sync_path.specs.Path.{path_cmp, is_under, parent_of}
 use Rattle.sync_path.specs.PathOrder.{path_cmp_total}
-use Rattle.entry_tree.specs.Tree.{Names, ByPath, is_below, holds_folder, IsClosed, set_at, without_below, at_parent, refusal}
+use Rattle.sync_path.proofs.Intervals.{rest_from_under}
+use Rattle.std.proofs.lemmas.List.{append-nil}
+use Rattle.entry_tree.specs.Tree.{Names, ByPath, is_below, holds_folder, IsClosed, set_at, without_below, without_under, at_parent, refusal}
 use Rattle.entry_tree.specs.declared.tree_error.TreeError.TheVariants.{NotDir}
 use Rattle.entry_tree.proofs.Maps.{alike}
 use Rattle.entry_tree.proofs.Paths.{path_same, tied, under_child, below_child, child_below, not_below_child, not_below_itself}
@@ -54,7 +56,15 @@ root_or_child (x ∷ path) =
       | inr c ↦ inr (x ∷ c.0, c.1, ap (λ l. x ∷ l) c.2)
     ]
 
+none_stands : {X : Type 0} (o : Option X) → (is_some o ≡ true → ⊥) → o ≡ None
+none_stands None h = refl
+none_stands (Some x) h = absurd (h refl)
+
 module _ {X : Type 0} (is_folder : X → Bool) where
+  folder_stands : (o : Option X) → holds_folder is_folder o ≡ true → is_some o ≡ true
+  folder_stands None h = absurd (not_true h)
+  folder_stands (Some x) h = refl
+
   -- the empty tree
   pub closed_empty : IsClosed is_folder map.empty
   closed_empty path name h = absurd (not_true (ap is_some (sym (map.get-empty path_cmp (path ++ name ∷ []))) ∙ h))
@@ -70,6 +80,23 @@ module _ {X : Type 0} (is_folder : X → Bool) where
       closed_retain keep up path name h =
           let stood = kept (keep (path ++ name ∷ [])) (map.get tree (path ++ name ∷ [])) (ap is_some (sym (get-retain keep (path ++ name ∷ []))) ∙ h) in
           ap (holds_folder is_folder) (get-retain keep path ∙ ap (λ b. cond b (map.get tree path) None) (up path name stood.0)) ∙ closed path name stood.1
+
+      -- where nothing stands at a path, nothing stands under it
+      stands_up : (s p : Names) → map.contains_key tree (p ++ s) ≡ true → map.contains_key tree p ≡ true
+      stands_up [] p h = ap (map.contains_key tree) (sym (append-nil p)) ∙ h
+      stands_up (n ∷ s) p h =
+          let same : (p ++ n ∷ []) ++ s ≡ p ++ n ∷ s = simp append_assoc in
+          folder_stands (map.get tree p) (closed p n (stands_up s (p ++ n ∷ []) (ap (map.contains_key tree) same ∙ h)))
+
+      pub nothing_under : (p : Names) → map.get tree p ≡ None → without_under tree p ≡ tree
+      nothing_under p none =
+          map.same_map path_cmp_total path_same (without_under tree p) tree
+          (λ q. get-retain (λ k. not (is_under k p)) q
+          ∙ elim (is_under q p) as (λ b. is_under q p ≡ b → cond (not b) (map.get tree q) None ≡ map.get tree q) [
+            | true ↦ λ u. let rest = rest_from_under q p u in
+                sym (none_stands (map.get tree q) (λ h. no_true (map.contains_key tree p) (stands_up rest.0 p (ap (map.contains_key tree) (sym rest.1) ∙ h)) (ap is_some none)))
+            | false ↦ λ u. refl
+          ] refl)
 
   -- which paths a tree keeps where x is set
   abbrev keeps : Names → X → Names → Bool

@@ -4,7 +4,6 @@ pub mod Copying
 pub mod Digest
 pub mod Entry
 pub mod ProblemKind
-pub mod Prune
 pub mod Side
 pub mod Text
 pub mod Tree

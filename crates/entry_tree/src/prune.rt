@@ -1,36 +1,91 @@
 // Taking out of a map of paths what lies under a path.
-ghost use Rattle.std.specs.Prelude.{◌≡◌, not, [], MatchBool};
-ghost use Rattle.std.specs.List.{filter};
-ghost use Rattle.std.specs.Range.Bound.{bound_map};
-ghost use Rattle.std.specs.BTreeMap.Range.{entries_between};
-ghost use Rattle.std.specs.declared.ops.Bound.TheVariants.{Unbounded};
-ghost use Rattle.sync_path.specs.Path.{is_under, path_cmp};
-ghost use Rattle.entry_tree.specs.Tree.{is_below};
-ghost use Rattle.entry_tree.specs.Prune.{BeginsUnder};
-ghost use Rattle.entry_tree.specs.Walk.{StartsAt, is_met};
+ghost use Rattle.std.specs.Prelude.{◌≡◌, ◌↔◌, not, IsSome, IsTrue, IfNone, None};
+ghost use Rattle.std.specs.FinMap.{from_entries};
+ghost use Rattle.std.specs.List.{filter, list_any};
+ghost use Rattle.std.specs.BTreeMap.{get, Updates};
+ghost use Rattle.sync_path.specs.Path.{path_cmp};
+ghost use Rattle.entry_tree.specs.Tree.{is_below, without_under};
 
+use crate::walk::Under;
+use std::alloc::Global;
 use std::collections::BTreeMap;
 use std::ops::Bound;
 use sync_path::Path;
 
-/// Takes out all at and below the path. It takes no memory.
+/// Takes out all at and below the path, where the map holds something at the path; else it stays as it was.
 ///
-/// Cost: O(log n) comparisons of paths where nothing lies there, else one pass over the map.
+/// Cost and memory: as those of `take_below`.
 pub(crate) fn take_under<T: Drop>(map: &mut BTreeMap<Path, T>, path: &Path)
-    ensures { map.new.entries ≡ filter (λ e. not (is_under e.0 path.now)) map.old.entries }
+    ensures held { IsSome (get path_cmp map.old path.now) → from_entries {R = path_cmp} map.new.entries ≡ without_under (from_entries map.old.entries) path.now }
+    ensures absent { get path_cmp map.old path.now ≡ None → map.new.entries ≡ map.old.entries }
 {
-    if stands_first(map, Bound::Included(path), path) {
-        map.retain(|key, _| !key.is_under(path));
+    if let Some(aside) = take_top(map, path) {
+        take_out(map, aside, path);
     }
 }
 
-/// Takes out all below the path. It takes no memory. Cost: as that of `take_under`.
-pub(crate) fn take_below<T: Drop>(map: &mut BTreeMap<Path, T>, path: &Path)
+// Takes out what the map holds at the path, and gives its key.
+fn take_top<T: Drop>(map: &mut BTreeMap<Path, T>, path: &Path) -> Option<Path>
+    ensures held { IsSome result ↔ IsSome (get path_cmp map.old path.now) }
+    ensures taken { Updates path_cmp map.old map.new path.now None }
+    ensures absent { IfNone result (map.new.entries ≡ map.old.entries) }
+{
+    match map.remove_entry(path) {
+        Some((key, _)) => Some(key),
+        None => None,
+    }
+}
+
+/// Takes out all below the path.
+///
+/// It keeps one path aside, and takes memory where this has to grow. Where there is none, it does the same in one
+/// pass over the map. Cost with memory: O(log n) comparisons of paths, and as many for each entry that goes.
+pub(crate) fn take_below<T: Drop>(map: &mut BTreeMap<Path, T>, alloc: Global, path: &Path)
     ensures { map.new.entries ≡ filter (λ e. not (is_below e.0 path.now)) map.old.entries }
 {
-    if stands_first(map, Bound::Excluded(path), path) {
+    take_out(map, Path::root(alloc), path);
+}
+
+// Takes out all below the path, with the other to be overwritten.
+fn take_out<T: Drop>(map: &mut BTreeMap<Path, T>, aside: Path, path: &Path)
+    ensures { map.new.entries ≡ filter (λ e. not (is_below e.0 path.now)) map.old.entries }
+{
+    take_each(map, aside, path);
+    if stands_below(map, path) {
         map.retain(|key, _| !is_strictly_under(key, path));
     }
+}
+
+// Takes out what lies below the path, one entry after the other, as long as there is memory.
+fn take_each<T: Drop>(map: &mut BTreeMap<Path, T>, aside: Path, path: &Path)
+    ensures { filter (λ e. not (is_below e.0 path.now)) map.new.entries ≡ filter (λ e. not (is_below e.0 path.now)) map.old.entries }
+{
+    let mut first = aside;
+    for _ in 0..map.len() {
+        if !copy_first(map, path, &mut first) {
+            return;
+        }
+        let _ = map.remove(&first);
+    }
+}
+
+// Copies the path of the first entry below a path, if there is one, and memory.
+fn copy_first<T>(map: &BTreeMap<Path, T>, path: &Path, first: &mut Path) -> bool
+    ensures { IsTrue result → IsTrue (is_below first.new path.now) }
+{
+    match Under::new(map, Bound::Excluded(path), path).next() {
+        Some((below, _)) => first.copy_from(below).is_ok(),
+        None => false,
+    }
+}
+
+// Whether anything lies below the path.
+fn stands_below<T>(map: &BTreeMap<Path, T>, path: &Path) -> bool
+    ensures { result ≡ list_any (λ e. is_below e.0 path.now) map.now.entries }
+{
+    Under::new(map, Bound::Excluded(path), path)
+        .next()
+        .is_some()
 }
 
 // Whether the path lies below another.
@@ -38,15 +93,4 @@ fn is_strictly_under(path: &Path, top: &Path) -> bool
     ensures { result ≡ is_below path.now top.now }
 {
     top.compare(path).is_lt() && path.is_under(top)
-}
-
-// Whether the first entry from the start on lies under the path.
-fn stands_first<T>(map: &BTreeMap<Path, T>, start: Bound<&Path>, path: &Path) -> bool
-    requires { StartsAt (bound_map (λ x. x.now) start) path.now }
-    ensures { MatchBool result (BeginsUnder path.now (entries_between path_cmp (bound_map (λ x. x.now) start.entry) Unbounded map.now.entries)) (filter (λ e. is_met (bound_map (λ x. x.now) start.entry) path.now e.0) map.now.entries ≡ []) }
-{
-    match map.range((start, Bound::Unbounded)).next() {
-        Some((first, _)) => first.is_under(path),
-        None => false,
-    }
 }

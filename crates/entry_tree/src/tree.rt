@@ -85,9 +85,10 @@ impl<T: Node> TreeOf<T> {
     /// taken away.
     ///
     /// It is refused where the path's parent holds nothing or no folder; the root has no parent. After an
-    /// `Err` the tree is as it was. Where the tree holds something at the path already, it takes no memory.
+    /// `Err` the tree is as it was. Where the tree holds something at the path already, it needs no memory, and
+    /// can't fail.
     ///
-    /// Cost: O(log n) comparisons of paths; where entries below the path are taken away, one pass over the tree.
+    /// Cost: O(log n) comparisons of paths, and as many for each entry that is taken away (as at `remove_under`).
     pub fn set(&mut self, alloc: Global, path: &Path, node: T) -> Result<(), TreeError>
         ensures ok { OnOk result (self.new ≡ set_at T.is_folder self.old path.now node) }
         ensures allowed { OnOk result (refusal T.is_folder (at_parent self.old path.now) ≡ None) }
@@ -102,14 +103,15 @@ impl<T: Node> TreeOf<T> {
             return Err(TreeError::Memory);
         }
         if !is_dir {
-            take_below(&mut self.entries, path);
+            take_below(&mut self.entries, alloc, path);
         }
         Ok(())
     }
 
-    /// Takes away all at and below the path. It takes no memory.
+    /// Takes away all at and below the path. It needs no memory.
     ///
-    /// Cost: O(log n) comparisons of paths where nothing stands there, else one pass over the tree.
+    /// Cost: O(log n) comparisons of paths, and as many for each entry that is taken away. It keeps one path aside,
+    /// which grows to the longest of them; where there is no memory for that, it makes one pass over the tree.
     pub fn remove_under(&mut self, path: &Path)
         ensures { self.new ≡ without_under self.old path.now }
     {

@@ -1,5 +1,5 @@
 // A path below a root.
-ghost use Rattle.std.specs.Prelude.{List, ◌≡◌, ◌==◌, ◌≤◌, ◌+◌, ◌++◌, ◌∷◌, ◌↔◌, ◌⊎◌, ℕ, [], length, IfOk, IfErr, OnOk, IfSome, IsTrue, IsFalse, Some, Err, string_bytes, MatchOption};
+ghost use Rattle.std.specs.Prelude.{List, ◌≡◌, ◌==◌, ◌≤◌, ◌+◌, ◌++◌, ◌∷◌, ◌↔◌, ◌⊎◌, ℕ, [], length, IfOk, IfErr, OnOk, OnErr, IfSome, IsTrue, IsFalse, Some, Err, string_bytes, MatchOption};
 ghost use Rattle.std.specs.Option.{option_copied};
 ghost use Rattle.sync_path.specs.Name.{IsName};
 ghost use Rattle.sync_path.specs.Path.{IsPath, is_under, path_cmp, path_text, place_behind, may_follow, parent_of, last_name};
@@ -179,6 +179,16 @@ impl Path {
             Ok(buffer) => Ok(Path { buffer }),
             Err(error) => Err(error),
         }
+    }
+
+    /// Becomes a path of the same names as the other. It takes memory only where the other's text is longer than
+    /// any that this path has held. After an `Err` this is the root. Cost: the length of the text.
+    pub fn copy_from(&mut self, other: &Path) -> Result<(), AllocError>
+        ensures ok { OnOk result (self.new ≡ other.now) }
+        ensures err { OnErr result (self.new ≡ []) }
+    {
+        self.buffer.clear();
+        self.buffer.push_str(other.buffer.as_str())
     }
 
     /// Whether this path is the other or lies below it: the other's names are the first of this one's.

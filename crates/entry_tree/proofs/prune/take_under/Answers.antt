@@ -1,12 +1,5 @@
-use Rattle.std.proofs.Common.{not, rules}
-use Rattle.sync_path.specs.Path.{is_under}
-use Rattle.std.proofs.lemmas.Map.Made.{filter_same_pairs}
-use Rattle.entry_tree.proofs.Pruning.{stays_under}
+use Rattle.entry_tree.proofs.Pruning.{without_top}
 use Rattle.entry_tree.proofs.prune.take_under.Goals as goal
 
-pub returns-then-stands_first : goal.returns-then-stands_first
-returns-then-stands_first g c =
-    filter_same_pairs _ (λ e. not (is_under e.0 c.args.path.now)) _ (λ k v b w f' t. search rules) c.args.map.now.entries _ c.retain.ensures.filtered
-
-pub returns-else-stands_first : goal.returns-else-stands_first
-returns-else-stands_first g c = stays_under c.args.path.now c.args.map.now.entries _ c.stands_first.result c.stands_first.ensures (search rules)
+pub returns-in-Some-clause-held : goal.returns-in-Some-clause-held
+returns-in-Some-clause-held g c = λ _. without_top c.args.map.now c.take_top.new.map c.args.path.now c.take_top.ensures.taken c.take_out.new.map.entries c.take_out.ensures
