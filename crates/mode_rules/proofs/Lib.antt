@@ -1,4 +1,11 @@
+pub mod After
+pub mod Below
+pub mod Cases
+pub mod Held
+pub mod Licences
+pub mod Meeting
 pub mod PathKeys
 pub mod PathSets
-pub mod PlanParts
 pub mod PlanLaws
+pub mod PlanParts
+pub mod Turning

@@ -24,13 +24,14 @@ keys_marked : (ps : List Names) → map (λ e. e.0) (map (λ p. let x : Names ×
 keys_marked [] = refl
 keys_marked (p ∷ ps) = ap (λ qs. p ∷ qs) (keys_marked ps)
 
-among : (ps : List Names) (q : Names) → trees.contains_key (trees.from_entries {R = path_cmp} (map (λ p. let x : Names × Unit {0} = (p, tt) in x) ps)) q ≡ list_any (eq_by_cmp path_cmp q) ps
+-- a path has its mark in a set exactly where it is among those that were put there
+pub among : (ps : List Names) (q : Names) → trees.contains_key (trees.from_entries {R = path_cmp} (map (λ p. let x : Names × Unit {0} = (p, tt) in x) ps)) q ≡ list_any (eq_by_cmp path_cmp q) ps
 among ps q =
     ap is_some (trees.get-from_entries path_cmp_total _ q)
     ∙ is_some-find path_cmp q _
     ∙ ap (list_any (eq_by_cmp path_cmp q)) (keys_marked ps)
 
-three : (t : Trees) (q : Names) → list_any (eq_by_cmp path_cmp q) (trees.keys t.ancestor ++ trees.keys t.alpha ++ trees.keys t.beta)
+pub three : (t : Trees) (q : Names) → list_any (eq_by_cmp path_cmp q) (trees.keys t.ancestor ++ trees.keys t.alpha ++ trees.keys t.beta)
     ≡ ((trees.contains_key t.ancestor q || trees.contains_key t.alpha q) || trees.contains_key t.beta q)
 three t q =
     list_any-append (eq_by_cmp path_cmp q) (trees.keys t.ancestor ++ trees.keys t.alpha) (trees.keys t.beta)

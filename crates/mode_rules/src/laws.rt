@@ -1,6 +1,18 @@
 //! What every plan keeps to, for all trees. Each law is the contract of a function that does nothing.
-ghost use Rattle.mode_rules.specs.Laws.{ChangesBetaAlone, LeavesEqualSides};
+ghost use Rattle.mode_rules.specs.Laws.{TakesNothingElse, ChangesBetaAlone, LeavesEqualSides, MakesSidesMeet, TreatsSidesAlike};
 ghost use Rattle.mode_rules.specs.declared.mode.Mode.{Mode};
+
+/// In two-way-safe a side is changed only where all that it holds at and below the path, what is untracked apart, is what the ancestor holds in the same
+/// place: nothing else is taken away or replaced.
+pub fn two_way_safe_takes_only_the_ancestors()
+    ensures { TakesNothingElse Mode.TwoWaySafe }
+{}
+
+/// In two-way-safe it makes no difference which side is called alpha: with the sides in each other's place the plan is the same, each side's part in the
+/// other's place.
+pub fn two_way_safe_treats_sides_alike()
+    ensures { TreatsSidesAlike Mode.TwoWaySafe }
+{}
 
 /// In both one-way modes alpha is never changed.
 pub fn one_way_modes_leave_alpha()
@@ -11,4 +23,12 @@ pub fn one_way_modes_leave_alpha()
 /// Where both sides are the same, nothing is changed and there is no conflict, in any mode.
 pub fn equal_sides_are_left()
     ensures { (mode : Mode) → LeavesEqualSides mode }
+{}
+
+/// Where nothing stands on either side but folders, files and links, and there is no conflict, both sides hold the same after the changes, in both two-way
+/// modes and in one-way-replica.
+pub fn sides_meet()
+    ensures safe { MakesSidesMeet Mode.TwoWaySafe }
+    ensures resolved { MakesSidesMeet Mode.TwoWayResolved }
+    ensures replica { MakesSidesMeet Mode.OneWayReplica }
 {}

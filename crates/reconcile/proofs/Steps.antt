@@ -19,11 +19,9 @@ use Rattle.mode_rules.specs.Verdicts.{first_case, verdict}
 use Rattle.mode_rules.specs.Plans.{points_of, change_at, change_by, line_at, line_by, conflict_at, conflict_by}
 use Rattle.reconcile.specs.declared.decided.Decided.{Decided}
 use Rattle.reconcile.specs.Runs.{listed, run_len, verdict_in, conflict_by_in, decided_of}
+use Rattle.mode_rules.proofs.Cases.{folders_agree}
+use Rattle.mode_rules.proofs.Below.{folders}
 use Rattle.reconcile.proofs.Order.{is_before, rises, map_rises, before_is_not_under, under_itself, under_through, is_false, run_is_under, rest_is_not_under, take_one, drop_one}
-
--- both sides hold a folder there
-abbrev pub folders : Trees → Names → Bool
-folders t p = holds_folder (trees.get t.alpha p) && holds_folder (trees.get t.beta p)
 
 -- a path p doesn't keep q from being decided on its own
 abbrev pub lets : Trees → Names → Names → Bool
@@ -190,19 +188,6 @@ run_is_paths_at t before path below at =
     ∙ filter-append (λ p. is_under p path) (take n below) (drop n below)
     ∙ ap₂ (λ a b. a ++ b) (filter_all (λ p. is_under p path) (take n below) (run_is_under path below)) (filter_none (λ p. is_under p path) (drop n below) (rest_is_not_under path below r.all_behind r.rest))
     ∙ append-nil (take n below))
-
-folder_there : (x : Option Atom) → holds_folder x ≡ true → x ≡ Some Dir
-folder_there None e = absurd (true≢false (sym e))
-folder_there (Some Dir) e = refl
-folder_there (Some (File digest)) e = absurd (true≢false (sym e))
-folder_there (Some (Link text)) e = absurd (true≢false (sym e))
-folder_there (Some Untracked) e = absurd (true≢false (sym e))
-folder_there (Some (Problem kind)) e = absurd (true≢false (sym e))
-
-folders_agree : (mode : Mode) (a b : Option Atom) (x y : Standing) → (holds_folder a && holds_folder b) ≡ true → first_case mode a b x y ≡ verdicts.Agreed
-folders_agree mode a b x y e =
-    let both = and_parts (holds_folder a) (holds_folder b) e in
-    λ i. first_case mode (folder_there a both.0 i) (folder_there b both.1 i) x y
 
 in_its_run : (t : Trees) (path : Names) (v : Verdict) → conflict_by t path v ≡ conflict_by_in t (paths_at t path) path v
 in_its_run t path verdicts.Blocked = refl
