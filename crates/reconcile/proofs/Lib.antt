@@ -1,2 +1,5 @@
+pub mod Joining
+pub mod Joins
 pub mod Order
+pub mod RowSteps
 pub mod Steps

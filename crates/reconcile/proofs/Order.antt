@@ -26,7 +26,8 @@ keys_behind : {X : Type 0} (k : Names) (es : List (Names × X)) → below_all pa
 keys_behind k [] = refl
 keys_behind k (e ∷ es) = ap (λ b. is_before k e.0 && b) (keys_behind k es)
 
-keys_rise : {X : Type 0} (es : List (Names × X)) → is_sorted path_cmp es ≡ rises (map (λ e. e.0) es)
+-- a list of entries is in order exactly where its keys rise
+pub keys_rise : {X : Type 0} (es : List (Names × X)) → is_sorted path_cmp es ≡ rises (map (λ e. e.0) es)
 keys_rise [] = refl
 keys_rise (e ∷ es) = ap₂ (λ a b. a && b) (keys_behind e.0 es) (keys_rise es)
 

@@ -1,15 +1,14 @@
 // What is decided so far.
 ghost use Rattle.std.specs.Prelude.{◌≡◌, ◌++◌, [], OnOk};
-ghost use Rattle.mode_rules.specs.Plans.{change_by, line_by};
+ghost use Rattle.mode_rules.specs.Plans.{change_by};
 ghost use Rattle.mode_rules.specs.Sights.{trees_of};
-ghost use Rattle.reconcile.specs.Runs.{listed, verdict_in, conflict_by_in};
+ghost use Rattle.reconcile.specs.Runs.{listed, row_verdict, row_line_by, row_conflict_by};
 
-use crate::runs::{conflict_by_in, verdict_in};
-use crate::seen::Seen;
-use mode_rules::{AncestorLine, Change, Conflict, Mode, Sight, change_by, line_by};
+use crate::row::Row;
+use crate::runs::{conflict_by_in, line_by_in, verdict_in};
+use mode_rules::{AncestorLine, Change, Conflict, Mode, Sight, change_by};
 use sqlite_items::Items;
 use std::alloc::{AllocError, Global};
-use sync_path::Path;
 
 /// The changes, the ancestor's lines and the conflicts of the paths that are decided so far.
 #[derive(Drop)]
@@ -41,23 +40,23 @@ impl Decided {
         }
     }
 
-    /// Adds what is decided at a path, by the paths of its run.
+    /// Adds what is decided at a row, by the rows of its run.
     pub(crate) fn add(
         &mut self,
         alloc: Global,
         mode: Mode,
         sight: &Sight,
-        run: &[Seen],
-        path: &Path,
+        run: &[Row],
+        row: &Row,
     ) -> Result<(), AllocError>
-        ensures changes { OnOk result (self.new.changes ≡ self.old.changes ++ listed (change_by (trees_of sight.now) path.now (verdict_in mode (trees_of sight.now) run.now path.now))) }
-        ensures agreed { OnOk result (self.new.agreed ≡ self.old.agreed ++ listed (line_by (trees_of sight.now) path.now (verdict_in mode (trees_of sight.now) run.now path.now))) }
-        ensures conflicts { OnOk result (self.new.conflicts ≡ self.old.conflicts ++ listed (conflict_by_in (trees_of sight.now) run.now path.now (verdict_in mode (trees_of sight.now) run.now path.now))) }
+        ensures changes { OnOk result (self.new.changes ≡ self.old.changes ++ listed (change_by (trees_of sight.now) row.now.0 (row_verdict mode run.now row.now))) }
+        ensures agreed { OnOk result (self.new.agreed ≡ self.old.agreed ++ listed (row_line_by row.now (row_verdict mode run.now row.now))) }
+        ensures conflicts { OnOk result (self.new.conflicts ≡ self.old.conflicts ++ listed (row_conflict_by run.now row.now (row_verdict mode run.now row.now))) }
     {
-        let verdict = verdict_in(mode, sight, run, path);
-        let change = change_by(alloc, sight, path, verdict)?;
-        let line = line_by(alloc, sight, path, verdict)?;
-        let conflict = conflict_by_in(alloc, sight, run, path, verdict)?;
+        let verdict = verdict_in(mode, run, row);
+        let change = change_by(alloc, sight, row.path(), verdict)?;
+        let line = line_by_in(alloc, row, verdict)?;
+        let conflict = conflict_by_in(alloc, run, row, verdict)?;
         add_some(&mut self.changes, change)?;
         add_some(&mut self.agreed, line)?;
         add_some(&mut self.conflicts, conflict)?;

@@ -4,9 +4,10 @@
 #![tactic(auto)]
 
 mod decided;
+mod part;
+mod row;
+mod rows;
 mod runs;
-mod seen;
-mod seen_set;
 mod walk;
 
 pub use walk::reconcile;

@@ -1,29 +1,36 @@
-// Runs: a path, and the paths behind it that are decided with it.
-ghost use Rattle.std.specs.Prelude.{◌≡◌, ◌≤◌, length, not, IfOk};
-ghost use Rattle.std.specs.List.{filter, list_all, prefix_len};
+// Runs: a row, and the rows behind it that are decided with it.
+ghost use Rattle.std.specs.Prelude.{◌≡◌, ◌≤◌, length, IfOk};
+ghost use Rattle.std.specs.List.{list_all, prefix_len};
+ghost use Rattle.std.specs.Option.{option_copied};
 ghost use Rattle.sync_path.specs.Path.{is_under};
-ghost use Rattle.mode_rules.specs.Trees.{is_same_at, is_less_at};
-ghost use Rattle.mode_rules.specs.Sights.{trees_of};
-ghost use Rattle.reconcile.specs.Runs.{run_len, standing_in, verdict_in, conflict_in, conflict_by_in};
+ghost use Rattle.mode_rules.specs.Trees.{holds_folder};
+ghost use Rattle.reconcile.specs.Runs.{is_same_row, is_less_row, row_run_len, row_standing, row_verdict, row_differing, row_conflict, row_conflict_by, row_dropped, row_taken, row_line_by};
 
-use crate::seen::Seen;
-use entry_tree::Tree;
-use mode_rules::{
-    Conflict, Mode, Reason, Sight, Standing, Verdict, are_folders, first_case, is_less_at,
-    is_same_at,
-};
+use crate::row::Row;
+use entry_tree::{Atom, Side};
+use mode_rules::{AncestorLine, Conflict, Mode, Reason, Standing, Verdict, first_case, is_same};
 use sqlite_items::Items;
 use std::alloc::{AllocError, Global};
 use sync_path::Path;
 
-// How many of these paths, from the first on, lie at or below the path.
-fn under_len(path: &Path, below: &[Seen]) -> usize
-    ensures len { result ≡ prefix_len (λ p. is_under p path.now) below.now }
+// Whether a folder stands there.
+fn is_folder(atom: Option<&Atom>) -> bool
+    ensures { result ≡ holds_folder (option_copied atom.entry) }
+{
+    match atom {
+        Some(atom) => atom.is_dir(),
+        None => false,
+    }
+}
+
+// How many of these rows, from the first on, lie at or below the path.
+fn under_len(path: &Path, below: &[Row]) -> usize
+    ensures len { result ≡ prefix_len (λ row. is_under row.0 path.now) below.now }
     ensures within { result ≤ length below.now }
 {
     let mut count = 0;
-    'below: for other in below {
-        if other.path().is_under(path) {
+    'below: for row in below {
+        if row.path().is_under(path) {
             count += 1;
         } else {
             return count;
@@ -32,70 +39,65 @@ fn under_len(path: &Path, below: &[Seen]) -> usize
     count
 }
 
-/// How many of the paths behind a path are decided with it.
-pub(crate) fn run_len(sight: &Sight, path: &Path, below: &[Seen]) -> usize
-    ensures len { result ≡ run_len (trees_of sight.now) path.now below.now }
+/// How many of the rows behind a row are decided with it.
+pub(crate) fn run_len(row: &Row, below: &[Row]) -> usize
+    ensures len { result ≡ row_run_len row.now below.now }
     ensures within { result ≤ length below.now }
 {
-    if are_folders(sight.alpha, sight.beta, path) {
+    if is_folder(row.on_side(Side::Alpha)) && is_folder(row.on_side(Side::Beta)) {
         0
     } else {
-        under_len(path, below)
+        under_len(row.path(), below)
     }
 }
 
-// Whether a side is as the ancestor at each of these paths.
-fn is_same_in(ancestor: &Tree, side: &Tree, run: &[Seen]) -> bool
-    ensures { result ≡ list_all (is_same_at ancestor.now side.now) run.now }
+// Whether a side is as the ancestor at each of these rows.
+fn is_same_in(side: Side, run: &[Row]) -> bool
+    ensures { result ≡ list_all (is_same_row side) run.now }
 {
-    run.iter().all(|p| is_same_at(ancestor, side, p.path()))
+    run.iter().all(|row| row.is_same(side))
 }
 
-// Whether a side holds only what the ancestor holds in the same place, at each of these paths.
-fn is_less_in(ancestor: &Tree, side: &Tree, run: &[Seen]) -> bool
-    ensures { result ≡ list_all (is_less_at ancestor.now side.now) run.now }
+// Whether a side holds only what the ancestor holds in the same place, at each of these rows.
+fn is_less_in(side: Side, run: &[Row]) -> bool
+    ensures { result ≡ list_all (is_less_row side) run.now }
 {
-    run.iter().all(|p| is_less_at(ancestor, side, p.path()))
+    run.iter().all(|row| row.is_less(side))
 }
 
-// How a side stands to the ancestor, at each path of a run.
-fn standing_in(ancestor: &Tree, side: &Tree, run: &[Seen]) -> Standing
-    ensures { result ≡ standing_in ancestor.now side.now run.now }
+// How a side stands to the ancestor, at each row of a run.
+fn standing_in(side: Side, run: &[Row]) -> Standing
+    ensures { result ≡ row_standing side run.now }
 {
     Standing {
-        same: is_same_in(ancestor, side, run),
-        less: is_less_in(ancestor, side, run),
+        same: is_same_in(side, run),
+        less: is_less_in(side, run),
     }
 }
 
-/// What is decided at a path, by the paths of its run.
-pub(crate) fn verdict_in(mode: Mode, sight: &Sight, run: &[Seen], path: &Path) -> Verdict
-    ensures { result ≡ verdict_in mode (trees_of sight.now) run.now path.now }
+/// What is decided at a row, by the rows of its run.
+pub(crate) fn verdict_in(mode: Mode, run: &[Row], row: &Row) -> Verdict
+    ensures { result ≡ row_verdict mode run.now row.now }
 {
-    let alpha = standing_in(sight.ancestor, sight.alpha, run);
-    let beta = standing_in(sight.ancestor, sight.beta, run);
+    let alpha = standing_in(Side::Alpha, run);
+    let beta = standing_in(Side::Beta, run);
     first_case(
         mode,
-        sight.alpha.get(path),
-        sight.beta.get(path),
+        row.on_side(Side::Alpha),
+        row.on_side(Side::Beta),
         alpha,
         beta,
     )
 }
 
 // Those paths of a run at which a side differs from the ancestor.
-fn differing_in(
-    alloc: Global,
-    ancestor: &Tree,
-    side: &Tree,
-    run: &[Seen],
-) -> Result<Items<Path>, AllocError>
-    ensures { IfOk result (λ found. found ≡ filter (λ p. not (is_same_at ancestor.now side.now p)) run.now) }
+fn differing_in(alloc: Global, side: Side, run: &[Row]) -> Result<Items<Path>, AllocError>
+    ensures { IfOk result (λ found. found ≡ row_differing side run.now) }
 {
     let mut found = Items::new(alloc);
-    for seen in run {
-        if !is_same_at(ancestor, side, seen.path()) {
-            found.push(seen.path().copy(alloc)?)?;
+    for row in run {
+        if !row.is_same(side) {
+            found.push(row.path().copy(alloc)?)?;
         }
     }
     Ok(found)
@@ -104,16 +106,15 @@ fn differing_in(
 // A conflict, with the paths of the run at which each side differs from the ancestor.
 fn conflict_in(
     alloc: Global,
-    sight: &Sight,
-    run: &[Seen],
-    path: &Path,
+    run: &[Row],
+    row: &Row,
     reason: Reason,
 ) -> Result<Conflict, AllocError>
-    ensures { IfOk result (λ found. found ≡ conflict_in (trees_of sight.now) run.now path.now reason) }
+    ensures { IfOk result (λ found. found ≡ row_conflict run.now row.now reason) }
 {
-    let alpha = differing_in(alloc, sight.ancestor, sight.alpha, run)?;
-    let beta = differing_in(alloc, sight.ancestor, sight.beta, run)?;
-    let at = path.copy(alloc)?;
+    let alpha = differing_in(alloc, Side::Alpha, run)?;
+    let beta = differing_in(alloc, Side::Beta, run)?;
+    let at = row.path().copy(alloc)?;
     Ok(Conflict {
         at,
         reason,
@@ -125,12 +126,11 @@ fn conflict_in(
 /// The conflict that a decision reports.
 pub(crate) fn conflict_by_in(
     alloc: Global,
-    sight: &Sight,
-    run: &[Seen],
-    path: &Path,
+    run: &[Row],
+    row: &Row,
     verdict: Verdict,
 ) -> Result<Option<Conflict>, AllocError>
-    ensures { IfOk result (λ found. found ≡ conflict_by_in (trees_of sight.now) run.now path.now verdict) }
+    ensures { IfOk result (λ found. found ≡ row_conflict_by run.now row.now verdict) }
 {
     let reason = match verdict {
         Verdict::Blocked => Reason::Blocked,
@@ -144,8 +144,56 @@ pub(crate) fn conflict_by_in(
         | Verdict::BetaEmptied
         | Verdict::BetaKeeps => return Ok(None),
     };
-    match conflict_in(alloc, sight, run, path, reason) {
+    match conflict_in(alloc, run, row, reason) {
         Ok(found) => Ok(Some(found)),
         Err(error) => Err(error),
+    }
+}
+
+// The line that drops all at and below the row's path, where the ancestor holds something there.
+fn dropped(alloc: Global, row: &Row) -> Result<Option<AncestorLine>, AllocError>
+    ensures { IfOk result (λ line. line ≡ row_dropped row.now) }
+{
+    match row.ancestor() {
+        Some(_) => Ok(Some(AncestorLine::Drop(row.path().copy(alloc)?))),
+        None => Ok(None),
+    }
+}
+
+// The line that sets what both sides hold at the row's path, where the ancestor doesn't hold it.
+fn taken(alloc: Global, row: &Row) -> Result<Option<AncestorLine>, AllocError>
+    ensures { IfOk result (λ line. line ≡ row_taken row.now) }
+{
+    let held = row.on_side(Side::Alpha);
+    if is_same(row.ancestor(), held) {
+        return Ok(None);
+    }
+    match held {
+        Some(atom) => {
+            let atom = atom.copy(alloc)?;
+            Ok(Some(AncestorLine::Set(row.path().copy(alloc)?, atom)))
+        }
+        None => Ok(None),
+    }
+}
+
+/// The line of the ancestor that a decision writes, if any.
+pub(crate) fn line_by_in(
+    alloc: Global,
+    row: &Row,
+    verdict: Verdict,
+) -> Result<Option<AncestorLine>, AllocError>
+    ensures { IfOk result (λ line. line ≡ row_line_by row.now verdict) }
+{
+    match verdict {
+        Verdict::Gone | Verdict::BetaKeeps => dropped(alloc, row),
+        Verdict::Agreed => taken(alloc, row),
+        Verdict::Left
+        | Verdict::Blocked
+        | Verdict::AlphaTakes
+        | Verdict::BetaTakes
+        | Verdict::AlphaEmptied
+        | Verdict::BetaEmptied
+        | Verdict::Both => Ok(None),
     }
 }

@@ -1,22 +1,23 @@
 // One walk over the paths of three trees.
 ghost use Rattle.std.specs.Prelude.{◌≡◌, IfOk};
-ghost use Rattle.mode_rules.specs.Trees.{paths_of};
 ghost use Rattle.mode_rules.specs.Plans.{plan_of};
 ghost use Rattle.mode_rules.specs.Sights.{trees_of};
+ghost use Rattle.reconcile.specs.Rows.{rows_of};
 ghost use Rattle.reconcile.specs.Runs.{decided_of};
 
 use crate::decided::Decided;
+use crate::row::Row;
+use crate::rows::rows_of;
 use crate::runs::run_len;
-use crate::seen::Seen;
-use crate::seen_set::paths_of;
 use entry_tree::Tree;
 use mode_rules::{Mode, Plan, Sight, halt_of};
 use std::alloc::{AllocError, Global};
 
 /// What a cycle is to do, by the ancestor and by what was seen of both sides: the plan that `mode_rules::settle` gives.
 ///
-/// It takes memory for what the plan lists, and for a reference to each path of the three trees. It goes over the paths
-/// once, in path order, and looks at each in one decision only. Cost: O(n log n · depth), and what the plan lists.
+/// It takes memory for what the plan lists, and for references to each path of the three trees and what they hold there. It goes over the
+/// paths once, in path order, and looks at each in one decision only. Cost for n paths in the three trees together: O(n · depth), and
+/// for each change O(log n · depth) and what it lists.
 pub fn reconcile(
     alloc: Global,
     mode: Mode,
@@ -26,25 +27,25 @@ pub fn reconcile(
 ) -> Result<Plan, AllocError>
     ensures { IfOk result (λ plan. plan ≡ plan_of mode (record { ancestor = ancestor.now; alpha = alpha.now; beta = beta.now })) }
 {
-    let paths = paths_of(alloc, ancestor, alpha, beta)?;
+    let rows = rows_of(alloc, ancestor, alpha, beta)?;
     let sight = Sight {
         ancestor,
         alpha,
         beta,
     };
-    plan_of(alloc, mode, &sight, paths.as_slice())
+    plan_of(alloc, mode, &sight, rows.as_slice())
 }
 
 // The plan of what is seen.
-fn plan_of(alloc: Global, mode: Mode, sight: &Sight, paths: &[Seen]) -> Result<Plan, AllocError>
-    requires { paths.now ≡ paths_of (trees_of sight.now) }
+fn plan_of(alloc: Global, mode: Mode, sight: &Sight, rows: &[Row]) -> Result<Plan, AllocError>
+    requires { rows.now ≡ rows_of (trees_of sight.now) }
     ensures { IfOk result (λ plan. plan ≡ plan_of mode (trees_of sight.now)) }
 {
     let Decided {
         changes,
         agreed,
         conflicts,
-    } = walk(alloc, mode, sight, paths)?;
+    } = walk(alloc, mode, sight, rows)?;
     let halt = halt_of(alloc, mode, sight, changes.as_slice());
     Ok(Plan {
         halt,
@@ -55,21 +56,20 @@ fn plan_of(alloc: Global, mode: Mode, sight: &Sight, paths: &[Seen]) -> Result<P
 }
 
 // What is decided at each path, in path order. Where both sides hold a folder, what lies below is decided path by path; else it is decided with the path.
-fn walk(alloc: Global, mode: Mode, sight: &Sight, paths: &[Seen]) -> Result<Decided, AllocError>
-    requires { paths.now ≡ paths_of (trees_of sight.now) }
+fn walk(alloc: Global, mode: Mode, sight: &Sight, rows: &[Row]) -> Result<Decided, AllocError>
+    requires { rows.now ≡ rows_of (trees_of sight.now) }
     ensures { IfOk result (λ decided. decided ≡ decided_of mode (trees_of sight.now)) }
 {
     let mut decided = Decided::new(alloc);
     let mut at = 0;
-    'paths: loop {
-        let (_, rest) = paths.split_at(at);
-        let Some((seen, below)) = rest.split_first() else {
+    'rows: loop {
+        let (_, rest) = rows.split_at(at);
+        let Some((row, below)) = rest.split_first() else {
             return Ok(decided);
         };
-        let path = seen.path();
-        let len = 1 + run_len(sight, path, below);
+        let len = 1 + run_len(row, below);
         let (run, _) = rest.split_at(len);
-        decided.add(alloc, mode, sight, run, path)?;
+        decided.add(alloc, mode, sight, run, row)?;
         at += len;
     }
 }

@@ -1,11 +1,11 @@
 use Rattle.std.proofs.Common.{◌≤◌, ◌-◌, length, drop}
 use Rattle.mode_rules.specs.Sights.{trees_of}
-use Rattle.reconcile.proofs.Steps.{IsWalked}
+use Rattle.reconcile.proofs.RowSteps.{IsWalkedRows}
 use Rattle.reconcile.proofs.walk.walk.Given as goal
 
--- what is decided so far, and the paths that are left
-abbrev pub invariant-paths : goal.invariant-paths
-invariant-paths l = (l.at ≤ length l.paths) × IsWalked l.mode (trees_of l.sight) (drop l.at l.paths) l.decided
+-- what is decided so far, and the rows that are left
+abbrev pub invariant-rows : goal.invariant-rows
+invariant-rows l = (l.at ≤ length l.rows) × IsWalkedRows l.mode (trees_of l.sight) (drop l.at l.rows) l.decided
 
-abbrev pub decreases-paths : goal.decreases-paths
-decreases-paths l = length l.paths - l.at
+abbrev pub decreases-rows : goal.decreases-rows
+decreases-rows l = length l.rows - l.at
