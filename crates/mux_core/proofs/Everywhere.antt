@@ -67,7 +67,7 @@ one : (past : List (Event × Reply)) (w v : World) (event : Event) (reply : Repl
 one past w v Open (Opened answer) j h =
     (subst (λ (a : Reply). Joint Near (past ++ (Open, a) ∷ []) v.near v.far) (ap Opened (sym h.1)) (put Near _ w v _ h.2 (opens_keep past w.near w.far j)), tt)
 one past w v (Write side k bytes) (Wrote answer) j h =
-    (subst (λ (a : Reply). Joint Near (past ++ (Write side k bytes, a) ∷ []) v.near v.far) (ap Wrote (sym h.1)) (put side _ w v _ h.2 (writes_keep side past (at w side) (at w (other side)) k bytes (from_near side past w j))), tt)
+    (subst (λ (a : Reply). Joint Near (past ++ (Write side k bytes, a) ∷ []) v.near v.far) (ap Wrote (sym h.0)) (put side _ w v _ h.1 (writes_keep side past (at w side) (at w (other side)) k bytes (from_near side past w j))), tt)
 one past w v (Read side k most) (Answered answer) j h =
     (subst (λ (a : Reply). Joint Near (past ++ (Read side k most, a) ∷ []) v.near v.far) (ap Answered (sym h.1)) (put side _ w v _ h.2 (reads_keep side past (at w side) (at w (other side)) k most (from_near side past w j) h.0)), tt)
 one past w v (CloseWrite side k) (Done answer) j h =

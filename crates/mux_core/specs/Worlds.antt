@@ -95,8 +95,7 @@ pub record Fails (from to : Post) (count place : ℕ) (from_after to_after : Pos
 -- that its contract names, under the conditions that it has. Bytes are moved while neither end is cut.
 abbrev pub Happens : World → Event → Reply → World → Type 0
 Happens w Open (Opened answer) v = (w.near.end.is_cut ≡ false) × (answer ≡ (open_step w.near.end).0) × (v ≡ with_end w Near (open_step w.near.end).1)
-Happens w (Write side stream bytes) (Wrote answer) v =
-    (0 < length bytes) × (answer ≡ (write_step (at w side).end stream bytes).0) × (v ≡ with_end w side (write_step (at w side).end stream bytes).1)
+Happens w (Write side stream bytes) (Wrote answer) v = (answer ≡ (write_step (at w side).end stream bytes).0) × (v ≡ with_end w side (write_step (at w side).end stream bytes).1)
 Happens w (Read side stream most) (Answered answer) v =
     (0 < most) × (answer ≡ (read_step (at w side).end stream most).0) × (v ≡ with_end w side (read_step (at w side).end stream most).1)
 Happens w (CloseWrite side stream) (Done answer) v = (answer ≡ (close_write_step (at w side).end stream).0) × (v ≡ with_end w side (close_write_step (at w side).end stream).1)

@@ -23,7 +23,7 @@ impl MuxEnd {
         if !self.allows(&frame) {
             return Err(MuxError::Protocol(frame));
         }
-        self.take(frame)?;
+        self.take_frame(frame)?;
         Ok(())
     }
 
@@ -99,8 +99,8 @@ impl MuxEnd {
         }
     }
 
-    /// Takes a frame that breaks no rule.
-    fn take(&mut self, frame: MuxFrame) -> Result<(), AllocError>
+    /// Takes a frame that came, of which the caller knows that it breaks no rule. No byte is copied.
+    pub fn take_frame(&mut self, frame: MuxFrame) -> Result<(), AllocError>
         requires allowed { allows self.old frame ≡ true }
         requires linked { self.old.is_cut ≡ false }
         ensures ok { OnOk result (self.new ≡ after_frame self.old frame) }

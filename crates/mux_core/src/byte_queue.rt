@@ -91,6 +91,17 @@ impl ByteQueue {
         self.len = 0;
     }
 
+    /// The first piece, or no bytes where there are none. It takes no memory.
+    pub(crate) fn first(&self) -> &[u8]
+        ensures front { result.now ≡ take (length result.now) self.now.bytes }
+        ensures some { 0 < length self.now.bytes → 0 < length result.now }
+    {
+        match self.pieces.front() {
+            Some(piece) => piece.as_slice(),
+            None => &[],
+        }
+    }
+
     /// The first `count` bytes, which stay: of the first piece itself where they lie in it, or else a copy.
     pub(crate) fn front(&self, alloc: Global, count: usize) -> Result<Bytes, AllocError>
         requires { count ≤ length self.now.bytes }

@@ -1,5 +1,5 @@
 //! An end of a connection.
-ghost use Rattle.std.specs.Prelude.{◌≡◌, ℕ, ◌+◌, min, length, take, IsTrue, IfOk, OnOk, OnErr};
+ghost use Rattle.std.specs.Prelude.{◌≡◌, ℕ, ◌+◌, ◌<◌, ◌≤◌, min, length, take, IsTrue, IfOk, OnOk, OnErr};
 ghost use Rattle.std.specs.FinMap as map;
 ghost use Rattle.mux_core.specs.Ends.{fresh_end, tells, cut_off};
 ghost use Rattle.mux_core.specs.Calls.{credit_in, taken_out};
@@ -91,6 +91,41 @@ impl MuxEnd {
         let front = self.queue.front(self.alloc, count)?;
         self.queue.advance(count);
         Ok(front)
+    }
+
+    /// The first bytes that wait, which stay: those of the first piece, `most` at most, and none only
+    /// where none wait or `most` is 0. It takes no memory.
+    pub fn next_piece(&self, most: u64) -> &[u8]
+        ensures front { result.now ≡ take (length result.now) self.now.waiting }
+        ensures most { length result.now ≤ most }
+        ensures some { 0 < most → 0 < length self.now.waiting → 0 < length result.now }
+    {
+        let piece = self.queue.first();
+        let count = most.min(piece.len() as u64) as usize;
+        &piece[..count]
+    }
+
+    /// Takes the first `count` of the bytes that wait, which came to the other end. It takes no memory.
+    pub fn advance(&mut self, count: usize)
+        requires { count ≤ length self.old.waiting }
+        ensures { self.new ≡ taken_out self.old count }
+    {
+        self.queue.advance(count);
+    }
+
+    /// Whether the link was cut. It takes no memory.
+    pub fn is_cut(&self) -> bool
+        ensures { result ≡ self.now.is_cut }
+    {
+        self.is_cut
+    }
+
+    /// The last number that a stream was opened with, or the one that the end was made with. It takes
+    /// no memory.
+    pub fn last(&self) -> u32
+        ensures { result ≡ self.now.last }
+    {
+        self.last
     }
 
     /// The link has ended: what waits is dropped, and nothing is sent from then on. It takes no memory.

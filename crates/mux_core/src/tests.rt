@@ -65,9 +65,6 @@ fn open(end: &mut MuxEnd, count: u32) -> Answer {
 }
 
 fn write(end: &mut MuxEnd, stream: u32, bytes: &[u8]) -> Answer {
-    if bytes.is_empty() {
-        return Answer::Broken;
-    }
     match end.write(stream, bytes) {
         Ok(count) => Answer::Number(count as u64),
         Err(error) => refusal(error, 0),

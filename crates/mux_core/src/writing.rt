@@ -1,5 +1,4 @@
 //! Writing on a stream.
-ghost use Rattle.std.specs.Prelude.{◌<◌, length};
 ghost use Rattle.mux_core.specs.Calls.{write_step, close_write_step};
 ghost use Rattle.mux_core.specs.Ends.{SameLink};
 ghost use Rattle.mux_core.specs.Answers.{Answers};
@@ -11,9 +10,9 @@ use mux_frames::{MuxFrame, StreamId};
 
 impl MuxEnd {
     /// Accepts as many of the bytes as the stream's credit allows, lowers the credit by their number,
-    /// which it answers, and lets their Data frames wait to go out. Each byte is copied once.
+    /// which it answers, and lets their Data frames wait to go out. Each byte is copied once. Of no
+    /// bytes it accepts 0, and nothing changes.
     pub fn write(&mut self, stream: u32, bytes: &[u8]) -> Result<usize, MuxError>
-        requires { 0 < length bytes.now }
         ensures step { Answers result self.old self.new (write_step self.old stream bytes.now) }
         ensures link { SameLink self.old self.new }
     {

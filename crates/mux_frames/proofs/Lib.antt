@@ -4,4 +4,5 @@ pub mod Shapes
 pub mod Spellings
 pub mod Splitting
 pub mod Found
+pub mod Nexts
 pub mod Running

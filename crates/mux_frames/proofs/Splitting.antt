@@ -30,7 +30,7 @@ AreFrames-append (x ∷ xs) ys p q = (p.0, AreFrames-append xs ys p.1 q)
 -- ---- readings
 
 -- less than a whole frame has no whole frame in front
-partial_front : (frame : MuxFrame) (behind rest : List ℕ) → IsFrame frame → Continues IsSpelling rest → rest ≡ spelling frame ++ behind → ⊥
+pub partial_front : (frame : MuxFrame) (behind rest : List ℕ) → IsFrame frame → Continues IsSpelling rest → rest ≡ spelling frame ++ behind → ⊥
 partial_front frame behind rest ok goes e =
     let whole : spelling frame ++ (behind ++ goes.0 ∷ goes.1) ≡ spelling goes.2.0 ++ [] =
     sym (append_assoc (spelling frame) behind (goes.0 ∷ goes.1)) ∙ ap (λ (xs : List ℕ). xs ++ goes.0 ∷ goes.1) (sym e) ∙ goes.2.2 ∙ sym (append-nil (spelling goes.2.0)) in

@@ -8,3 +8,4 @@ pub mod Bytes
 pub mod Steps
 pub mod Readers
 pub mod Held
+pub mod Nexts

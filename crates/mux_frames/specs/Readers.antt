@@ -57,3 +57,8 @@ Finds bytes (batches.Bad place) = IsFault IsStream bytes place
 -- the stream has its fault at this place, as a u64
 abbrev pub FaultsAt : List ℕ → ℕ → Type 0
 FaultsAt bytes place = (at : ℕ) × IsFault IsStream bytes at × (place ≡ counted at)
+
+-- Behind what a reader holds back the piece has the first byte with which no frame continues what came
+-- before, at this place.
+abbrev pub FaultsAfter : Reading → List ℕ → ℕ → Type 0
+FaultsAfter r piece place = (offset : ℕ) × IsFault IsStream (r.held ++ piece) offset × (place ≡ counted (r.taken + offset))

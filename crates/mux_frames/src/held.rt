@@ -39,7 +39,11 @@ pub(crate) fn keep(
 }
 
 /// Adds the piece.
-fn append(alloc: Global, held: &mut Option<Vec<u8>>, piece: &[u8]) -> Result<(), AllocError>
+pub(crate) fn append(
+    alloc: Global,
+    held: &mut Option<Vec<u8>>,
+    piece: &[u8],
+) -> Result<(), AllocError>
     ensures ok { OnOk result (held_bytes held.new ≡ held_bytes held.old ++ piece.now) }
     ensures err { OnErr result (held_bytes held.new ≡ held_bytes held.old) }
 {

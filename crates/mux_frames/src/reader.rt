@@ -35,8 +35,8 @@ impl From<AllocError> for FeedError {
 /// bad byte, once one came.
 #[derive(Debug, Drop)]
 pub struct FrameReader {
-    taken: u64,
-    held: Option<Vec<u8>>,
+    pub(crate) taken: u64,
+    pub(crate) held: Option<Vec<u8>>,
     bad: Option<u64>,
 }
 
