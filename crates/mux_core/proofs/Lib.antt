@@ -16,3 +16,4 @@ pub mod Moves
 pub mod Joined
 pub mod Everywhere
 pub mod Progress
+pub mod Kept

@@ -68,7 +68,7 @@ move_on side past here there count j uncut uncut_there =
       },
     )
 
-placed : (side : Side) (a b : Post) (P : Post → Post → Type 0) → P a b → P (at (posts side a b) side) (at (posts side a b) (other side))
+pub placed : (side : Side) (a b : Post) (P : Post → Post → Type 0) → P a b → P (at (posts side a b) side) (at (posts side a b) (other side))
 placed Near a b P p = p
 placed Far a b P p = p
 
