@@ -1,4 +1,4 @@
--- The names directly below a path.
+-- What stands directly below a path.
 use Rattle.std.proofs.Common.{◌≡◌, ℕ, ◌+◌, Bool, true, false, cond, ◌&&◌, List, [], ◌∷◌, length, bytes_eq, refl, sym, ap, ◌∙◌, Option, Some, None, arith, Bor}
 use Rattle.std.specs.List.{filter, filter_map, cons_option, list_any}
 use Rattle.std.specs.Map.Iter.{TakesFirst}
@@ -38,18 +38,7 @@ no_name_above [] (m ∷ p) h = refl
 no_name_above (x ∷ k) (m ∷ p) h =
     elim (bytes_eq m x) as (λ b. (b && is_below k p) ≡ false → cond b (name_below k p) None ≡ None) [ true ↦ λ e. no_name_above k p e | false ↦ λ e. refl ] h
 
--- all names directly below a path stand below it
-pub names_are_below : {X : Type 0} (p : Names) (es : List (Names × X)) → filter_map (λ e. name_below e.0 p) (filter (λ e. is_below e.0 p) es) ≡ filter_map (λ e. name_below e.0 p) es
-names_are_below p [] = refl
-names_are_below {X} p (e ∷ es) =
-    let below = filter (λ (x : Names × X). is_below x.0 p) es in
-    let names : List (Names × X) → List (List ℕ) = filter_map (λ x. name_below x.0 p) in
-    elim (is_below e.0 p) as (λ b. is_below e.0 p ≡ b → names (cond b (e ∷ below) below) ≡ cons_option (name_below e.0 p) (names es)) [
-      | true ↦ λ _. ap (cons_option (name_below e.0 p)) (names_are_below p es)
-      | false ↦ λ h. names_are_below p es ∙ ap (λ o. cons_option o (names es)) (sym (no_name_above e.0 p h))
-    ] refl
-
--- the same of all that stands directly below it
+-- all that stands directly below a path stands below it
 pub rows_are_below : {X : Type 0} (p : Names) (es : List (Names × X)) → filter_map (child_row p) (filter (λ e. is_below e.0 p) es) ≡ filter_map (child_row p) es
 rows_are_below p [] = refl
 rows_are_below {X} p (e ∷ es) =

@@ -4,6 +4,7 @@ pub mod Maps
 pub mod Parts
 pub mod Paths
 pub mod Pruning
+pub mod Rows
 pub mod Setting
 pub mod Trees
 pub mod Walks

@@ -53,11 +53,11 @@ module _ (p : Names) (from inside : Names → Bool) (within : (k : Names) → fr
           | false ↦ λ f. rest ∙ ap (λ b. cond b (e ∷ kept) kept) (sym (before e.0 f))
         ] refl
 
-and_with : (a b : Bool) → a ≡ true → b ≡ (a && b)
+pub and_with : (a b : Bool) → a ≡ true → b ≡ (a && b)
 and_with true b h = refl
 and_with false b h = absurd (cc)
 
-and_without : (a b : Bool) → a ≡ false → (a && b) ≡ false
+pub and_without : (a b : Bool) → a ≡ false → (a && b) ≡ false
 and_without true b h = absurd (cc)
 and_without false b h = refl
 

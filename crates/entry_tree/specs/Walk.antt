@@ -1,5 +1,6 @@
 -- What is left of a walk over the entries at and below a path.
 use Rattle.std.specs.Prelude.{◌≡◌, Bool, ◌&&◌, cond, List, [], ◌∷◌, Option, Some, None}
+use Rattle.std.specs.List.{filter}
 use Rattle.std.specs.declared.ops.Bound.{Bound}
 use Rattle.std.specs.declared.ops.Bound.TheVariants.{Included, Excluded, Unbounded}
 use Rattle.std.specs.BTreeMap.Range.{range_contains}
@@ -25,3 +26,12 @@ StartsAt Unbounded path = ⊥
 -- whether a path is met by a walk from there on under the path
 abbrev pub is_met : Bound Names → Names → Names → Bool
 is_met start path q = range_contains path_cmp start Unbounded q && is_under q path
+
+-- the entries under a path that stand behind another
+abbrev pub left_behind : {X : Type 0} → Names → Names → List (Names × X) → List (Names × X)
+left_behind path at es = filter (λ e. is_met (Excluded at) path e.0) es
+
+-- the list begins with this
+pub record BeginsWith {A : Type 0} (first : A) (all : List A) : Type 0 where
+  pub rest : List A
+  pub is : all ≡ first ∷ rest

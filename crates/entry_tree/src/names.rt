@@ -8,17 +8,13 @@ use std::alloc::{AllocError, Global};
 use sync_path::{Name, Path};
 
 impl<T: Node> TreeOf<T> {
-    /// The names directly below the path, in the order of their bytes.
-    ///
-    /// Cost: O(log n) comparisons of paths, and one look at each entry below.
+    /// The names directly below the path, in the order of their bytes. Cost: as that of `children`.
     pub fn names(&self, alloc: Global, path: &Path) -> Result<Vec<Name>, AllocError>
         ensures { IfOk result (λ names. names.items ≡ names_below self.now path.now) }
     {
         let mut names = Vec::new(alloc);
-        for (below, _) in self.below(path) {
-            if let Some(name) = child_name(alloc, below, path)? {
-                names.push(name)?;
-            }
+        for child in self.children(alloc, path)? {
+            names.push(child.name)?;
         }
         Ok(names)
     }

@@ -2,10 +2,11 @@
 ghost use Rattle.std.specs.Prelude.{◌≡◌, ◌↔◌, ◌<◌, ◌^◌, IsTrue, IfOk, OnOk, OnErr, Ok, Err, None, Some};
 ghost use Rattle.std.specs.FinMap as map;
 ghost use Rattle.std.specs.Option.{option_copied};
-ghost use Rattle.entry_tree.specs.Tree.{IsClosed, set_at, without_under, at_parent, refusal, entries_under, entries_below, has_below};
+ghost use Rattle.entry_tree.specs.Tree.{IsClosed, set_at, without_under, at_parent, refusal, entries_under, entries_below, has_below, children_below};
 ghost use Rattle.entry_tree.specs.declared.tree_error.TreeError.TheVariants.{NoParent, NotDir, Memory};
 
 use crate::atom::Atom;
+use crate::child::{Child, children_in};
 use crate::node::Node;
 use crate::prune::{take_below, take_under};
 use crate::put::put;
@@ -150,6 +151,20 @@ impl<T: Node> TreeOf<T> {
         ensures { result ≡ has_below self.now path.now }
     {
         self.below(path).next().is_some()
+    }
+
+    /// What stands directly below the path, in the order of the names' bytes.
+    ///
+    /// Cost: O(log n) comparisons of paths for each child, whatever stands below it. (A folder whose name has 255
+    /// bytes is gone over, entry by entry.)
+    pub fn children<'a>(
+        &'a self,
+        alloc: Global,
+        path: &'a Path,
+    ) -> Result<Vec<Child<'a, T>>, AllocError>
+        ensures { IfOk result (λ children. children.items ≡ children_below self.now path.now) }
+    {
+        children_in(&self.entries, alloc, path)
     }
 
     // Whether something may stand at the path: where something stands there already, it may.
