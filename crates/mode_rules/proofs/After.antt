@@ -1,5 +1,5 @@
 -- What a side holds at a path after changes.
-use Rattle.std.proofs.Common.{◌≡◌, Bool, true, false, cond, not, ◌||◌, List, [], ◌∷◌, refl, sym, ap, subst, ◌∙◌, Option, Some, None, IfSome}
+use Rattle.std.proofs.Common.{◌≡◌, Bool, true, false, cond, not, ◌||◌, List, [], ◌∷◌, refl, sym, ap, ◌∙◌, Option, Some, None, IfSome}
 use Rattle.std.specs.Prelude.{◌&&◌}
 use Rattle.std.specs.FinMap as trees
 use Rattle.std.specs.FinMap.Entries.{is_sorted-where_key}
@@ -39,7 +39,7 @@ get-with_change : (tree : ByPath Atom) (change : Change) (q : Names)
     → trees.get (with_change tree change) q ≡ cond (is_under q change.at) (trees.get change.new q) (trees.get tree q)
 get-with_change tree change q =
     get-put_all (without_under tree change.at) (entries_under change.new change.at)
-        (is_sorted-where_key path_cmp (λ k. is_under k change.at) (trees.entries change.new) (trees.entries_sorted change.new)) q
+    (is_sorted-where_key path_cmp (λ k. is_under k change.at) (trees.entries change.new) (trees.entries_sorted change.new)) q
     ∙ (λ i. or_else (find-under change.new change.at q i)
     (trees.get-retain_keys tree (λ p. not (is_under p change.at)) q (alike path_same (λ p. not (is_under p change.at)) q) i))
     ∙ put_over (is_under q change.at) (trees.get change.new q) (trees.get tree q)

@@ -1,5 +1,5 @@
 -- What the cases of the table say of the atoms that they look at.
-use Rattle.std.proofs.Common.{◌≡◌, Bool, true, false, cond, not, ◌||◌, inl, inr, refl, sym, ap, ap₂, ◌∙◌, Option, Some, None}
+use Rattle.std.proofs.Common.{◌≡◌, Bool, true, false, not, ◌||◌, inl, inr, refl, sym, ap, ◌∙◌, Option, Some, None}
 use Rattle.std.specs.Prelude.{◌&&◌, ◌⊎◌}
 use Rattle.std.specs.Option.{is_some}
 use Rattle.std.proofs.lemmas.Bool.{cond_both, or_cases, or_parts, and_parts, true≢false}
@@ -10,7 +10,6 @@ use Rattle.entry_tree.specs.declared.atom.Atom.TheVariants.{Dir, File, Link, Unt
 use Rattle.entry_tree.specs.declared.problem_kind.ProblemKind.{ProblemKind}
 use Rattle.entry_tree.specs.declared.problem_kind.ProblemKind.TheVariants.{Changed, TooLarge, Failed}
 use Rattle.mode_rules.specs.declared.mode.Mode.{Mode}
-use Rattle.mode_rules.specs.declared.mode.Mode.TheVariants.{TwoWaySafe}
 use Rattle.mode_rules.specs.declared.standing.Standing.{Standing}
 use Rattle.mode_rules.specs.declared.verdict.Verdict.{Verdict}
 use Rattle.mode_rules.specs.declared.verdict.Verdict.TheVariants as verdicts

@@ -1,5 +1,5 @@
 -- In two-way-safe a side is changed only where it is, at and below the path, as the ancestor or less.
-use Rattle.std.proofs.Common.{◌≡◌, Bool, true, false, cond, ◌||◌, refl, sym, ap, ◌∙◌, inl, inr, Option, Some, None, IfSome}
+use Rattle.std.proofs.Common.{◌≡◌, Bool, true, false, ◌||◌, refl, sym, ◌∙◌, inl, inr, Option, Some, None, IfSome}
 use Rattle.std.specs.FinMap as trees
 use Rattle.std.specs.List.{list_any}
 use Rattle.std.specs.Option.{is_some}
@@ -13,7 +13,7 @@ use Rattle.mode_rules.specs.declared.standing.Standing.{Standing}
 use Rattle.mode_rules.specs.declared.verdict.Verdict.{Verdict}
 use Rattle.mode_rules.specs.declared.verdict.Verdict.TheVariants as verdicts
 use Rattle.mode_rules.specs.Laws.{TakesOnlyTheAncestors}
-use Rattle.mode_rules.specs.Trees.{Trees, paths_of, compared, same_there}
+use Rattle.mode_rules.specs.Trees.{Trees, paths_of, compared}
 use Rattle.mode_rules.specs.Verdicts.{by_mode, standing, verdict}
 use Rattle.mode_rules.specs.Plans.{change_at, change_by}
 use Rattle.mode_rules.proofs.Cases.{by_case, same_is, less_is}

@@ -1,11 +1,11 @@
 -- In the modes that take from both sides, and in one-way-replica, both sides hold the same after the changes.
-use Rattle.std.proofs.Common.{◌≡◌, Bool, true, false, cond, not, ◌||◌, List, [], ◌∷◌, refl, sym, ap, subst, ◌∙◌, inl, inr, Option, Some, None, IfSome}
+use Rattle.std.proofs.Common.{◌≡◌, Bool, true, false, not, ◌||◌, List, [], ◌∷◌, refl, sym, ap, subst, ◌∙◌, inl, inr, Option, Some, None, IfSome}
 use Rattle.std.specs.Prelude.{◌&&◌, ◌⊎◌}
 use Rattle.std.specs.FinMap as trees
-use Rattle.std.specs.List.{filter, filter_map, cons_option, list_all, list_any, AllByRecursion}
+use Rattle.std.specs.List.{filter, list_all, list_any, AllByRecursion}
 use Rattle.std.specs.Option.{is_some}
 use Rattle.std.specs.Ordering.{eq_by_cmp}
-use Rattle.std.proofs.lemmas.Bool.{and_parts, and_from, or_cases, or_left, or_right}
+use Rattle.std.proofs.lemmas.Bool.{and_parts, and_from, or_cases, or_right}
 use Rattle.sync_path.specs.Path.{path_cmp, is_under}
 use Rattle.sync_path.specs.PathOrder.{path_cmp_total}
 use Rattle.entry_tree.specs.Atom.{is_dir, is_tracked}
@@ -22,12 +22,12 @@ use Rattle.mode_rules.specs.declared.standing.Standing.{Standing}
 use Rattle.mode_rules.specs.declared.verdict.Verdict.{Verdict}
 use Rattle.mode_rules.specs.declared.verdict.Verdict.TheVariants as verdicts
 use Rattle.mode_rules.specs.Laws.{AreTracked, HoldsOnlyTracked, MakesSidesMeet, is_of, after}
-use Rattle.mode_rules.specs.Trees.{Trees, paths_of, is_point, is_in_folders, is_above, is_blocked, holds_folder, same_there}
+use Rattle.mode_rules.specs.Trees.{Trees, paths_of, is_point, is_in_folders, is_above, is_blocked, holds_folder}
 use Rattle.mode_rules.specs.Verdicts.{by_mode, first_case, standing, verdict}
-use Rattle.mode_rules.specs.Plans.{points_of, change_at, change_by, conflict_at, conflict_by, conflict, plan_of}
+use Rattle.mode_rules.specs.Plans.{change_at, change_by, conflict_at, conflict_by, plan_of}
 use Rattle.mode_rules.proofs.After.{get-part, get-folders_above, touches, Gives, after_kept, after_given, all_kept_where, any_kept}
 use Rattle.mode_rules.proofs.Below.{under_both, one_is_under, folder_above, folders, Decider, decider}
-use Rattle.mode_rules.proofs.Cases.{by_case, folders_agree, Differ, one_holds, less_is}
+use Rattle.mode_rules.proofs.Cases.{by_case, folders_agree, one_holds, less_is}
 use Rattle.mode_rules.proofs.Held.{has_alphas, has_betas, less_each, says_each}
 
 -- What is known of a path at which this is decided: that the path is among those of the trees, and which side holds something.

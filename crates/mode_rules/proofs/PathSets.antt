@@ -1,5 +1,5 @@
 -- What a set that has the paths of three trees is.
-use Rattle.std.proofs.Common.{◌≡◌, ℕ, Bool, true, false, cond, ◌||◌, List, [], ◌∷◌, ◌++◌, map, refl, sym, ap, ◌∙◌, Option, Some, None}
+use Rattle.std.proofs.Common.{◌≡◌, ◌||◌, List, [], ◌∷◌, ◌++◌, map, refl, sym, ap, ◌∙◌, Option, Some, None}
 use Rattle.std.specs.FinMap as trees
 use Rattle.std.specs.FinMap.{FinMap}
 use Rattle.std.specs.FinMap.Entries.{is_some-find}
@@ -9,9 +9,8 @@ use Rattle.std.specs.Ordering.{eq_by_cmp}
 use Rattle.std.proofs.lemmas.List.Folds.{list_any-append}
 use Rattle.sync_path.specs.Path.{path_cmp}
 use Rattle.sync_path.specs.PathOrder.{path_cmp_total}
-use Rattle.entry_tree.specs.Tree.{Names, ByPath}
-use Rattle.entry_tree.specs.declared.atom.Atom.{Atom}
-use Rattle.mode_rules.specs.Trees.{Trees, in_order, paths_of}
+use Rattle.entry_tree.specs.Tree.{Names}
+use Rattle.mode_rules.specs.Trees.{Trees, paths_of}
 use Rattle.mode_rules.proofs.PathKeys.{path_same}
 
 one_mark : (x y : Option (Unit {0})) → is_some x ≡ is_some y → x ≡ y

@@ -5,14 +5,12 @@ use Rattle.std.specs.Prelude.{◌&&◌}
 use Rattle.std.specs.Option.{is_some}
 use Rattle.std.specs.FinMap as trees
 use Rattle.std.proofs.lemmas.Slice.Eq.{bytes_eq-Decides}
-use Rattle.std.specs.Str.{bytes_eq}
 use Rattle.entry_tree.specs.Tree.{Names, ByPath}
 use Rattle.entry_tree.specs.declared.atom.Atom.{Atom}
 use Rattle.entry_tree.specs.declared.atom.Atom.TheVariants.{Dir, File, Link, Untracked, Problem}
 use Rattle.entry_tree.specs.declared.side.Side.TheVariants.{Beta}
 use Rattle.mode_rules.specs.declared.mode.Mode.{Mode}
 use Rattle.mode_rules.specs.declared.mode.Mode.TheVariants.{OneWaySafe, OneWayReplica}
-use Rattle.mode_rules.specs.declared.plan.Change.{Change}
 use Rattle.mode_rules.specs.declared.standing.Standing.{Standing}
 use Rattle.mode_rules.specs.declared.verdict.Verdict.{Verdict}
 use Rattle.mode_rules.specs.declared.verdict.Verdict.TheVariants as verdicts

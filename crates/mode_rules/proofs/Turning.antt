@@ -1,6 +1,6 @@
 -- The table in two-way-safe with alpha and beta in each other's place.
 use Rattle.std.proofs.Common.{◌≡◌, Bool, true, false, cond, not, ◌||◌, List, [], ◌∷◌, ◌++◌, map, length, refl, sym, ap, ap₂, ◌∙◌, inl, inr, Option, Some, None}
-use Rattle.std.specs.Prelude.{◌&&◌, ◌⊎◌, nat_le}
+use Rattle.std.specs.Prelude.{◌&&◌, nat_le}
 use Rattle.std.specs.FinMap as trees
 use Rattle.std.specs.List.{filter, filter_map, cons_option, list_all, list_any}
 use Rattle.std.specs.Option.{is_some, option_map}
@@ -11,22 +11,19 @@ use Rattle.sync_path.specs.Path.{path_cmp, is_under}
 use Rattle.entry_tree.specs.Tree.{Names, ByPath}
 use Rattle.entry_tree.specs.declared.atom.Atom.{Atom}
 use Rattle.entry_tree.proofs.Paths.{under_itself}
-use Rattle.mode_rules.specs.declared.conflict.Conflict.{Conflict}
 use Rattle.mode_rules.specs.declared.conflict.Reason.{Reason}
 use Rattle.mode_rules.specs.declared.conflict.Reason.TheVariants as reasons
-use Rattle.mode_rules.specs.declared.mode.Mode.{Mode}
 use Rattle.mode_rules.specs.declared.mode.Mode.TheVariants.{TwoWaySafe}
 use Rattle.mode_rules.specs.declared.halt.Halt.TheVariants as halts
 use Rattle.mode_rules.specs.declared.plan.Change.{Change}
-use Rattle.mode_rules.specs.declared.plan.AncestorLine.TheVariants as lines
 use Rattle.mode_rules.specs.declared.standing.Standing.{Standing}
 use Rattle.mode_rules.specs.declared.verdict.Verdict.{Verdict}
 use Rattle.mode_rules.specs.declared.verdict.Verdict.TheVariants as verdicts
 use Rattle.mode_rules.specs.Halts.{deletes_root, turns_root, top_of, is_emptied, one_of, halt_of}
 use Rattle.mode_rules.specs.Laws.{turned_trees, turned_change, turned_conflict, turned_plan}
-use Rattle.mode_rules.specs.Trees.{Trees, paths_of, is_point, is_in_folders, is_above, holds_folder, holds_tracked, is_blocked, is_same_at, is_less_at, same_there, compared}
-use Rattle.mode_rules.specs.Verdicts.{by_mode, first_case, standing, verdict}
-use Rattle.mode_rules.specs.Plans.{points_of, change_at, change_by, line_at, line_by, conflict_at, conflict_by, conflict, plan_of}
+use Rattle.mode_rules.specs.Trees.{Trees, paths_of, is_point, is_in_folders, is_above, holds_folder, holds_tracked, is_blocked, is_same_at, is_less_at, same_there}
+use Rattle.mode_rules.specs.Verdicts.{by_mode, standing, verdict}
+use Rattle.mode_rules.specs.Plans.{points_of, change_at, change_by, line_at, line_of, taken, conflict_at, conflict_by, conflict, plan_of}
 use Rattle.mode_rules.proofs.Cases.{by_case, same_is, same_itself, less_is, Differ, both_the_same, one_holds, not_both}
 use Rattle.mode_rules.proofs.Held.{has_alphas, has_betas, same_each, less_each}
 use Rattle.mode_rules.proofs.PathSets.{among, three, keys_of_three}
@@ -196,12 +193,17 @@ two_way_case P sa sb h at bt ae be both = by sa.same sa.less sb.same sb.less h
     by false false false true h = bt
     by false false false false h = both
 
-line_turned : (t : Trees) (path : Names) → line_by (turned_trees t) path (turned_verdict (verdict TwoWaySafe t path)) ≡ line_by t path (verdict TwoWaySafe t path)
+line_turned : (t : Trees) (path : Names)
+    → line_of path (trees.get t.ancestor path) (trees.get t.beta path) (turned_verdict (verdict TwoWaySafe t path))
+    ≡ line_of path (trees.get t.ancestor path) (trees.get t.alpha path) (verdict TwoWaySafe t path)
 line_turned t path =
-    by_case (λ v. line_by (turned_trees t) path (turned_verdict v) ≡ line_by t path v) TwoWaySafe (trees.get t.alpha path) (trees.get t.beta path) (standing t t.alpha path) (standing t t.beta path)
+    by_case alike TwoWaySafe (trees.get t.alpha path) (trees.get t.beta path) (standing t t.alpha path) (standing t t.beta path)
     (λ _ _. refl) (λ _. refl) (λ _ _. refl)
-    (λ same. ap (λ (o : Option Atom). cond (same_there (trees.get t.ancestor path) o) None (option_map (lines.Set path) o)) (sym same))
-    (λ _ _ _ _. two_way_case (λ v. line_by (turned_trees t) path (turned_verdict v) ≡ line_by t path v) (standing t t.alpha path) (standing t t.beta path) (is_some (trees.get t.alpha path)) refl refl refl refl refl)
+    (λ same. ap (taken path (trees.get t.ancestor path)) (sym same))
+    (λ _ _ _ _. two_way_case alike (standing t t.alpha path) (standing t t.beta path) (is_some (trees.get t.alpha path)) refl refl refl refl refl)
+  where
+    alike : Verdict → Type 0
+    alike v = line_of path (trees.get t.ancestor path) (trees.get t.beta path) (turned_verdict v) ≡ line_of path (trees.get t.ancestor path) (trees.get t.alpha path) v
 
 pub change_at_turned : (t : Trees) (path : Names) → change_at TwoWaySafe (turned_trees t) path ≡ option_map turned_change (change_at TwoWaySafe t path)
 unfolding change_at
@@ -213,7 +215,7 @@ conflict_at_turned t path = ap (conflict_by (turned_trees t) path) (verdict_turn
 
 pub line_at_turned : (t : Trees) (path : Names) → line_at TwoWaySafe (turned_trees t) path ≡ line_at TwoWaySafe t path
 unfolding line_at
-line_at_turned t path = ap (line_by (turned_trees t) path) (verdict_turned t path) ∙ line_turned t path
+line_at_turned t path = ap (line_of path (trees.get t.ancestor path) (trees.get t.beta path)) (verdict_turned t path) ∙ line_turned t path
 
 one_mapped : {X Y : Type 0} (h : X → Y) (o : Option X) (xs : List X) → cons_option (option_map h o) (map h xs) ≡ map h (cons_option o xs)
 one_mapped h None xs = refl

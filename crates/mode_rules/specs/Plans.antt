@@ -1,5 +1,5 @@
 -- The table over paths: what each decision gives, and the plan of all of them.
-use Rattle.std.specs.Prelude.{◌≡◌, ℕ, Bool, true, false, not, List, [], ◌∷◌, Option, Some, None, if◌then◌else◌, is_some}
+use Rattle.std.specs.Prelude.{List, Option, Some, None, if◌then◌else◌, is_some}
 use Rattle.std.specs.List.{filter, filter_map}
 use Rattle.std.specs.Option.{option_map}
 use Rattle.std.specs.FinMap as trees
@@ -42,27 +42,25 @@ change_by t path verdicts.BetaKeeps = None
 change_by t path verdicts.Both = None
 
 -- the line by which the ancestor drops all at and below the path, where it holds something there
-abbrev pub dropped : Trees → Names → Option AncestorLine
-dropped t path = if is_some (trees.get t.ancestor path) then Some (lines.Drop path) else None
+abbrev pub dropped : Names → Option Atom → Option AncestorLine
+dropped path at_ancestor = if is_some at_ancestor then Some (lines.Drop path) else None
 
 -- the line by which the ancestor takes what both sides hold at the path, where it doesn't hold it
-abbrev pub taken : Trees → Names → Option AncestorLine
-taken t path =
-    if same_there (trees.get t.ancestor path) (trees.get t.alpha path) then None
-    else option_map (lines.Set path) (trees.get t.alpha path)
+abbrev pub taken : Names → Option Atom → Option Atom → Option AncestorLine
+taken path at_ancestor at_sides = if same_there at_ancestor at_sides then None else option_map (lines.Set path) at_sides
 
--- the ancestor's line that a decision writes
-abbrev pub line_by : Trees → Names → Verdict → Option AncestorLine
-line_by t path verdicts.Gone = dropped t path
-line_by t path verdicts.BetaKeeps = dropped t path
-line_by t path verdicts.Agreed = taken t path
-line_by t path verdicts.Left = None
-line_by t path verdicts.Blocked = None
-line_by t path verdicts.AlphaTakes = None
-line_by t path verdicts.BetaTakes = None
-line_by t path verdicts.AlphaEmptied = None
-line_by t path verdicts.BetaEmptied = None
-line_by t path verdicts.Both = None
+-- the ancestor's line that a decision writes, by what the ancestor and alpha hold at the path
+abbrev pub line_of : Names → Option Atom → Option Atom → Verdict → Option AncestorLine
+line_of path at_ancestor at_alpha verdicts.Gone = dropped path at_ancestor
+line_of path at_ancestor at_alpha verdicts.BetaKeeps = dropped path at_ancestor
+line_of path at_ancestor at_alpha verdicts.Agreed = taken path at_ancestor at_alpha
+line_of path at_ancestor at_alpha verdicts.Left = None
+line_of path at_ancestor at_alpha verdicts.Blocked = None
+line_of path at_ancestor at_alpha verdicts.AlphaTakes = None
+line_of path at_ancestor at_alpha verdicts.BetaTakes = None
+line_of path at_ancestor at_alpha verdicts.AlphaEmptied = None
+line_of path at_ancestor at_alpha verdicts.BetaEmptied = None
+line_of path at_ancestor at_alpha verdicts.Both = None
 
 -- a conflict, with the paths at which each side differs from the ancestor
 abbrev pub conflict : Trees → Names → Reason → Conflict
@@ -92,7 +90,7 @@ change_at mode t path = change_by t path (verdict mode t path)
 
 -- it writes this line of the ancestor
 unfoldable pub line_at : Mode → Trees → Names → Option AncestorLine
-line_at mode t path = line_by t path (verdict mode t path)
+line_at mode t path = line_of path (trees.get t.ancestor path) (trees.get t.alpha path) (verdict mode t path)
 
 -- it reports this conflict
 unfoldable pub conflict_at : Mode → Trees → Names → Option Conflict

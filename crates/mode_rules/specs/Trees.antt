@@ -1,5 +1,5 @@
 -- The three trees that a decision looks at: the ancestor, and what was seen of alpha and of beta.
-use Rattle.std.specs.Prelude.{ℕ, Bool, true, false, ◌&&◌, ◌||◌, not, List, [], ◌∷◌, ◌++◌, map, Option, Some, None}
+use Rattle.std.specs.Prelude.{Bool, true, false, ◌&&◌, ◌||◌, not, List, ◌++◌, map, Option, Some, None}
 use Rattle.std.specs.List.{filter, list_all}
 use Rattle.std.specs.FinMap as trees
 use Rattle.sync_path.specs.Path.{is_under, path_cmp}

@@ -1,5 +1,5 @@
 -- What is decided at a path: the first case that holds.
-use Rattle.std.specs.Prelude.{◌≡◌, Bool, true, false, ◌&&◌, ◌||◌, not, Option, Some, None, if◌then◌else◌, is_some}
+use Rattle.std.specs.Prelude.{Bool, ◌&&◌, ◌||◌, not, Option, if◌then◌else◌, is_some}
 use Rattle.std.specs.FinMap as trees
 use Rattle.entry_tree.specs.Tree.{Names, ByPath}
 use Rattle.entry_tree.specs.declared.atom.Atom.{Atom}

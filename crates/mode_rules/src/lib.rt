@@ -28,14 +28,14 @@ pub use changes::change_by;
 pub use conflict::{Conflict, Reason};
 pub use halt::Halt;
 pub use halts::halt_of;
-pub use lines::line_by;
+pub use lines::line_of;
 pub use mode::Mode;
 pub use plan::{AncestorLine, Change, Plan};
-pub use points::are_folders;
+pub use points::holds_folder;
 pub use problem::{Cause, Problem};
 pub use report::{CycleReport, Outcome};
 pub use sight::Sight;
-pub use standing::{Standing, compared, is_less_at, is_same, is_same_at};
+pub use standing::{Standing, compared, is_same};
 pub use table::settle;
 pub use verdict::{Verdict, first_case};
 

@@ -10,15 +10,15 @@ use sqlite_items::Items;
 use std::alloc::{AllocError, Global};
 use sync_path::Path;
 
-/// Whether both sides hold a folder at the path. Cost: O(log n).
-pub fn are_folders(alpha: &Tree, beta: &Tree, path: &Path) -> bool
+// Whether both sides hold a folder at the path.
+fn are_folders(alpha: &Tree, beta: &Tree, path: &Path) -> bool
     ensures { result ≡ (holds_folder (trees.get alpha.now path.now) && holds_folder (trees.get beta.now path.now)) }
 {
     holds_folder(alpha.get(path)) && holds_folder(beta.get(path))
 }
 
-// Whether a folder stands there.
-pub(crate) fn holds_folder(atom: Option<&Atom>) -> bool
+/// Whether a folder stands there. It takes no memory.
+pub fn holds_folder(atom: Option<&Atom>) -> bool
     ensures { result ≡ holds_folder (option_copied atom.entry) }
 {
     match atom {

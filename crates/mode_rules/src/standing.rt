@@ -40,15 +40,15 @@ pub fn is_same(first: Option<&Atom>, second: Option<&Atom>) -> bool
     }
 }
 
-/// Whether the side is as the ancestor at the path. Cost: O(log n).
-pub fn is_same_at(ancestor: &Tree, side: &Tree, path: &Path) -> bool
+// Whether the side is as the ancestor at the path.
+fn is_same_at(ancestor: &Tree, side: &Tree, path: &Path) -> bool
     ensures { result ≡ is_same_at ancestor.now side.now path.now }
 {
     is_same(compared(side.get(path)), ancestor.get(path))
 }
 
-/// Whether the side holds nothing at the path, or what the ancestor holds there. Cost: O(log n).
-pub fn is_less_at(ancestor: &Tree, side: &Tree, path: &Path) -> bool
+// Whether the side holds nothing at the path, or what the ancestor holds there.
+fn is_less_at(ancestor: &Tree, side: &Tree, path: &Path) -> bool
     ensures { result ≡ is_less_at ancestor.now side.now path.now }
 {
     is_same(compared(side.get(path)), None) || is_same_at(ancestor, side, path)

@@ -1,5 +1,5 @@
 -- A turn of a merge, and its end.
-use Rattle.std.proofs.Common.{◌≡◌, ℕ, ◌+◌, List, [], ◌∷◌, ◌++◌, take, drop, refl, sym, ap, ◌∙◌}
+use Rattle.std.proofs.Common.{◌≡◌, ℕ, ◌+◌, List, [], ◌∷◌, ◌++◌, take, drop, sym, ap, ◌∙◌}
 use Rattle.std.proofs.lemmas.List.{append_assoc, drop-drop}
 use Rattle.entry_tree.specs.Tree.{Names}
 use Rattle.entry_tree.specs.declared.atom.Atom.{Atom}

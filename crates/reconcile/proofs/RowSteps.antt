@@ -1,27 +1,23 @@
 -- The walk over rows is the walk over their paths.
-use Rattle.std.proofs.Common.{◌≡◌, ℕ, Bool, true, false, cond, ◌&&◌, ◌+◌, not, if◌then◌else◌, List, [], ◌∷◌, ◌++◌, map, take, drop, refl, sym, ap, ap₂, subst, ◌∙◌, Option, Some, None}
-use Rattle.std.specs.List.{filter, list_all, prefix_len}
+use Rattle.std.proofs.Common.{◌≡◌, ℕ, Bool, true, false, cond, ◌&&◌, ◌+◌, not, if◌then◌else◌, List, [], ◌∷◌, ◌++◌, map, take, drop, refl, sym, ap, ap₂, ◌∙◌, Some}
+use Rattle.std.specs.List.{filter, prefix_len}
 use Rattle.std.proofs.lemmas.List.{take-map, drop-map}
 use Rattle.std.proofs.lemmas.List.Folds.{list_all-map}
 use Rattle.std.specs.FinMap as trees
 use Rattle.sync_path.specs.Path.{is_under}
-use Rattle.entry_tree.specs.Tree.{Names, ByPath}
-use Rattle.entry_tree.specs.declared.side.Side.{Side}
+use Rattle.entry_tree.specs.Tree.{Names}
 use Rattle.entry_tree.specs.declared.side.Side.TheVariants.{Alpha, Beta}
 use Rattle.mode_rules.specs.declared.mode.Mode.{Mode}
-use Rattle.mode_rules.specs.declared.conflict.Conflict.{Conflict}
-use Rattle.mode_rules.specs.declared.conflict.Reason.{Reason}
 use Rattle.mode_rules.specs.declared.conflict.Reason.TheVariants as reasons
-use Rattle.mode_rules.specs.declared.standing.Standing.{Standing}
 use Rattle.mode_rules.specs.declared.verdict.Verdict.{Verdict}
 use Rattle.mode_rules.specs.declared.verdict.Verdict.TheVariants as verdicts
-use Rattle.mode_rules.specs.Laws.{held}
-use Rattle.mode_rules.specs.Trees.{Trees, holds_folder, is_same_at, is_less_at, paths_of}
+use Rattle.mode_rules.specs.Trees.{Trees, holds_folder, is_same_at, paths_of}
 use Rattle.mode_rules.specs.Verdicts.{first_case}
-use Rattle.mode_rules.specs.Plans.{change_by, line_by}
+use Rattle.mode_rules.specs.Plans.{change_by, line_of}
 use Rattle.reconcile.specs.declared.decided.Decided.{Decided}
 use Rattle.reconcile.specs.Rows.{PathRow, row_of, rows_of}
-use Rattle.reconcile.specs.Runs.{listed, run_len, standing_in, verdict_in, conflict_in, conflict_by_in, is_same_row, is_less_row, row_run_len, row_standing, row_verdict, row_differing, row_conflict_by, row_line_by, decided_of}
+use Rattle.reconcile.specs.Runs.{listed, is_same_row, is_less_row, row_run_len, row_standing, row_verdict, row_differing, row_conflict_by, decided_of}
+use Rattle.reconcile.proofs.PathRuns.{run_len, standing_in, verdict_in, conflict_by_in}
 use Rattle.reconcile.proofs.Steps.{IsWalked, walk_start, walk_turn, walk_end}
 
 -- The walk so far over rows: the rows that are left are those of the paths that are.
@@ -88,23 +84,11 @@ conflict_is t ps path verdicts.AlphaEmptied = refl
 conflict_is t ps path verdicts.BetaEmptied = refl
 conflict_is t ps path verdicts.BetaKeeps = refl
 
-line_is : (t : Trees) (path : Names) (v : Verdict) → row_line_by (row_of t path) v ≡ line_by t path v
-line_is t path verdicts.Blocked = refl
-line_is t path verdicts.Both = refl
-line_is t path verdicts.Left = refl
-line_is t path verdicts.Gone = refl
-line_is t path verdicts.Agreed = refl
-line_is t path verdicts.AlphaTakes = refl
-line_is t path verdicts.BetaTakes = refl
-line_is t path verdicts.AlphaEmptied = refl
-line_is t path verdicts.BetaEmptied = refl
-line_is t path verdicts.BetaKeeps = refl
-
 -- a turn of the walk over rows
 pub rows_turn : (mode : Mode) (t : Trees) (row : PathRow) (below rest run behind : List PathRow) (old new : Decided) (n : ℕ) → IsWalkedRows mode t rest old
     → rest ≡ row ∷ below → n ≡ row_run_len row below → run ≡ take (1 + n) rest → behind ≡ drop (1 + n) rest
     → new.changes ≡ old.changes ++ listed (change_by t row.0 (row_verdict mode run row))
-    → new.agreed ≡ old.agreed ++ listed (row_line_by row (row_verdict mode run row))
+    → new.agreed ≡ old.agreed ++ listed (line_of row.0 row.1.ancestor row.1.alpha (row_verdict mode run row))
     → new.conflicts ≡ old.conflicts ++ listed (row_conflict_by run row (row_verdict mode run row))
     → IsWalkedRows mode t behind new
 rows_turn mode t row below rest run behind old new n w shape len front back changes agreed conflicts =
@@ -130,7 +114,7 @@ rows_turn mode t row below rest run behind old new n w shape len front back chan
           walked = walk_turn mode t p ps (p ∷ ps) (take (1 + n) (p ∷ ps)) (drop (1 + n) (p ∷ ps)) old new n walked refl
               (len ∙ ap₂ row_run_len first others ∙ run_len_is t p ps) refl refl
               (changes ∙ ap (λ c. old.changes ++ listed c) (ap₂ (change_by t) (ap (λ (r : PathRow). r.0) first) v))
-              (agreed ∙ ap (λ l. old.agreed ++ listed l) (ap₂ row_line_by first v ∙ line_is t p (verdict_in mode t (take (1 + n) (p ∷ ps)) p)))
+              (agreed ∙ ap (λ l. old.agreed ++ listed l) (ap₂ (λ (r : PathRow) w. line_of r.0 r.1.ancestor r.1.alpha w) first v))
               (conflicts ∙ ap (λ f. old.conflicts ++ listed f)
               ((λ i. row_conflict_by (taken i) (first i) (v i)) ∙ conflict_is t (take (1 + n) (p ∷ ps)) p (verdict_in mode t (take (1 + n) (p ∷ ps)) p)));
         }

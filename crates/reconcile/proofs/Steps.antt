@@ -8,17 +8,15 @@ use Rattle.std.proofs.lemmas.List.Elements.{filter-append}
 use Rattle.std.proofs.lemmas.List.Folds.{list_all-append}
 use Rattle.sync_path.specs.Path.{is_under}
 use Rattle.entry_tree.specs.Tree.{Names}
-use Rattle.entry_tree.specs.declared.atom.Atom.{Atom}
-use Rattle.entry_tree.specs.declared.atom.Atom.TheVariants.{Dir, File, Link, Untracked, Problem}
 use Rattle.mode_rules.specs.declared.mode.Mode.{Mode}
-use Rattle.mode_rules.specs.declared.standing.Standing.{Standing}
 use Rattle.mode_rules.specs.declared.verdict.Verdict.{Verdict}
 use Rattle.mode_rules.specs.declared.verdict.Verdict.TheVariants as verdicts
-use Rattle.mode_rules.specs.Trees.{Trees, holds_folder, is_above, is_in_folders, is_point, paths_at, paths_of}
-use Rattle.mode_rules.specs.Verdicts.{first_case, verdict}
-use Rattle.mode_rules.specs.Plans.{points_of, change_at, change_by, line_at, line_by, conflict_at, conflict_by}
+use Rattle.mode_rules.specs.Trees.{Trees, is_above, is_in_folders, is_point, paths_at, paths_of}
+use Rattle.mode_rules.specs.Verdicts.{verdict}
+use Rattle.mode_rules.specs.Plans.{points_of, change_at, change_by, line_at, conflict_at, conflict_by}
 use Rattle.reconcile.specs.declared.decided.Decided.{Decided}
-use Rattle.reconcile.specs.Runs.{listed, run_len, verdict_in, conflict_by_in, decided_of}
+use Rattle.reconcile.specs.Runs.{listed, decided_of}
+use Rattle.reconcile.proofs.PathRuns.{run_len, verdict_in, conflict_by_in, line_by}
 use Rattle.mode_rules.proofs.Cases.{folders_agree}
 use Rattle.mode_rules.proofs.Below.{folders}
 use Rattle.reconcile.proofs.Order.{is_before, rises, map_rises, before_is_not_under, under_itself, under_through, is_false, run_is_under, rest_is_not_under, take_one, drop_one}

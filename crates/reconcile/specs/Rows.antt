@@ -1,11 +1,11 @@
 -- Rows: paths with what each of three trees holds there.
-use Rattle.std.specs.Prelude.{◌≡◌, ℕ, Bool, ◌&&◌, ◌+◌, List, [], ◌∷◌, ◌++◌, map, take, drop, Option, Some, None, if◌then◌else◌}
+use Rattle.std.specs.Prelude.{ℕ, List, [], ◌∷◌, ◌++◌, map, take, drop, Option, Some, None, if◌then◌else◌}
 use Rattle.std.specs.Coded.{Coded, code_by, coded×, coded_list, coded_option, coded_ℕ}
 use Rattle.std.specs.FinMap as trees
 use Rattle.std.specs.List.{prefix_len}
 use Rattle.std.specs.Ordering.{is_lt, eq_by_cmp}
 use Rattle.sync_path.specs.Path.{path_cmp}
-use Rattle.entry_tree.specs.Tree.{Names, ByPath}
+use Rattle.entry_tree.specs.Tree.{Names}
 use Rattle.entry_tree.specs.contracts.atom.Atom.{the_row}
 use Rattle.entry_tree.specs.declared.atom.Atom.{Atom}
 use Rattle.entry_tree.specs.declared.side.Side.{Side}

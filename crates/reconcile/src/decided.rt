@@ -1,12 +1,13 @@
 // What is decided so far.
 ghost use Rattle.std.specs.Prelude.{◌≡◌, ◌++◌, [], OnOk};
-ghost use Rattle.mode_rules.specs.Plans.{change_by};
+ghost use Rattle.mode_rules.specs.Plans.{change_by, line_of};
 ghost use Rattle.mode_rules.specs.Sights.{trees_of};
-ghost use Rattle.reconcile.specs.Runs.{listed, row_verdict, row_line_by, row_conflict_by};
+ghost use Rattle.reconcile.specs.Runs.{listed, row_verdict, row_conflict_by};
 
 use crate::row::Row;
-use crate::runs::{conflict_by_in, line_by_in, verdict_in};
-use mode_rules::{AncestorLine, Change, Conflict, Mode, Sight, change_by};
+use crate::runs::{conflict_by_in, verdict_in};
+use entry_tree::Side;
+use mode_rules::{AncestorLine, Change, Conflict, Mode, Sight, change_by, line_of};
 use sqlite_items::Items;
 use std::alloc::{AllocError, Global};
 
@@ -50,12 +51,18 @@ impl Decided {
         row: &Row,
     ) -> Result<(), AllocError>
         ensures changes { OnOk result (self.new.changes ≡ self.old.changes ++ listed (change_by (trees_of sight.now) row.now.0 (row_verdict mode run.now row.now))) }
-        ensures agreed { OnOk result (self.new.agreed ≡ self.old.agreed ++ listed (row_line_by row.now (row_verdict mode run.now row.now))) }
+        ensures agreed { OnOk result (self.new.agreed ≡ self.old.agreed ++ listed (line_of row.now.0 row.now.1.ancestor row.now.1.alpha (row_verdict mode run.now row.now))) }
         ensures conflicts { OnOk result (self.new.conflicts ≡ self.old.conflicts ++ listed (row_conflict_by run.now row.now (row_verdict mode run.now row.now))) }
     {
         let verdict = verdict_in(mode, run, row);
         let change = change_by(alloc, sight, row.path(), verdict)?;
-        let line = line_by_in(alloc, row, verdict)?;
+        let line = line_of(
+            alloc,
+            row.path(),
+            row.ancestor(),
+            row.on_side(Side::Alpha),
+            verdict,
+        )?;
         let conflict = conflict_by_in(alloc, run, row, verdict)?;
         add_some(&mut self.changes, change)?;
         add_some(&mut self.agreed, line)?;

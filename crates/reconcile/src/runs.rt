@@ -1,27 +1,15 @@
 // Runs: a row, and the rows behind it that are decided with it.
 ghost use Rattle.std.specs.Prelude.{◌≡◌, ◌≤◌, length, IfOk};
 ghost use Rattle.std.specs.List.{list_all, prefix_len};
-ghost use Rattle.std.specs.Option.{option_copied};
 ghost use Rattle.sync_path.specs.Path.{is_under};
-ghost use Rattle.mode_rules.specs.Trees.{holds_folder};
-ghost use Rattle.reconcile.specs.Runs.{is_same_row, is_less_row, row_run_len, row_standing, row_verdict, row_differing, row_conflict, row_conflict_by, row_dropped, row_taken, row_line_by};
+ghost use Rattle.reconcile.specs.Runs.{is_same_row, is_less_row, row_run_len, row_standing, row_verdict, row_differing, row_conflict, row_conflict_by};
 
 use crate::row::Row;
-use entry_tree::{Atom, Side};
-use mode_rules::{AncestorLine, Conflict, Mode, Reason, Standing, Verdict, first_case, is_same};
+use entry_tree::Side;
+use mode_rules::{Conflict, Mode, Reason, Standing, Verdict, first_case, holds_folder};
 use sqlite_items::Items;
 use std::alloc::{AllocError, Global};
 use sync_path::Path;
-
-// Whether a folder stands there.
-fn is_folder(atom: Option<&Atom>) -> bool
-    ensures { result ≡ holds_folder (option_copied atom.entry) }
-{
-    match atom {
-        Some(atom) => atom.is_dir(),
-        None => false,
-    }
-}
 
 // How many of these rows, from the first on, lie at or below the path.
 fn under_len(path: &Path, below: &[Row]) -> usize
@@ -44,7 +32,7 @@ pub(crate) fn run_len(row: &Row, below: &[Row]) -> usize
     ensures len { result ≡ row_run_len row.now below.now }
     ensures within { result ≤ length below.now }
 {
-    if is_folder(row.on_side(Side::Alpha)) && is_folder(row.on_side(Side::Beta)) {
+    if holds_folder(row.on_side(Side::Alpha)) && holds_folder(row.on_side(Side::Beta)) {
         0
     } else {
         under_len(row.path(), below)
@@ -147,53 +135,5 @@ pub(crate) fn conflict_by_in(
     match conflict_in(alloc, run, row, reason) {
         Ok(found) => Ok(Some(found)),
         Err(error) => Err(error),
-    }
-}
-
-// The line that drops all at and below the row's path, where the ancestor holds something there.
-fn dropped(alloc: Global, row: &Row) -> Result<Option<AncestorLine>, AllocError>
-    ensures { IfOk result (λ line. line ≡ row_dropped row.now) }
-{
-    match row.ancestor() {
-        Some(_) => Ok(Some(AncestorLine::Drop(row.path().copy(alloc)?))),
-        None => Ok(None),
-    }
-}
-
-// The line that sets what both sides hold at the row's path, where the ancestor doesn't hold it.
-fn taken(alloc: Global, row: &Row) -> Result<Option<AncestorLine>, AllocError>
-    ensures { IfOk result (λ line. line ≡ row_taken row.now) }
-{
-    let held = row.on_side(Side::Alpha);
-    if is_same(row.ancestor(), held) {
-        return Ok(None);
-    }
-    match held {
-        Some(atom) => {
-            let atom = atom.copy(alloc)?;
-            Ok(Some(AncestorLine::Set(row.path().copy(alloc)?, atom)))
-        }
-        None => Ok(None),
-    }
-}
-
-/// The line of the ancestor that a decision writes, if any.
-pub(crate) fn line_by_in(
-    alloc: Global,
-    row: &Row,
-    verdict: Verdict,
-) -> Result<Option<AncestorLine>, AllocError>
-    ensures { IfOk result (λ line. line ≡ row_line_by row.now verdict) }
-{
-    match verdict {
-        Verdict::Gone | Verdict::BetaKeeps => dropped(alloc, row),
-        Verdict::Agreed => taken(alloc, row),
-        Verdict::Left
-        | Verdict::Blocked
-        | Verdict::AlphaTakes
-        | Verdict::BetaTakes
-        | Verdict::AlphaEmptied
-        | Verdict::BetaEmptied
-        | Verdict::Both => Ok(None),
     }
 }

@@ -4,6 +4,6 @@ use Rattle.mode_rules.proofs.laws.equal_sides_are_left.Goals as goal
 
 pub returns : goal.returns
 returns c = λ mode t same. (
-    none_kept _ (λ path. equal_changes mode t path same) (points_of t),
-    none_kept _ (λ path. equal_conflicts mode t path same) (points_of t),
-  )
+  none_kept _ (λ path. equal_changes mode t path same) (points_of t),
+  none_kept _ (λ path. equal_conflicts mode t path same) (points_of t),
+)
