@@ -1,4 +1,4 @@
--- In two-way-safe a side is changed only where it is, at and below the path, as the ancestor or less.
+-- In the safe modes a side is changed only where it is, at and below the path, as the ancestor or less; in every mode alpha is.
 use Rattle.std.proofs.Common.{◌≡◌, Bool, true, false, ◌||◌, refl, sym, ◌∙◌, inl, inr, Option, Some, None, IfSome}
 use Rattle.std.specs.FinMap as trees
 use Rattle.std.specs.List.{list_any}
@@ -8,7 +8,9 @@ use Rattle.std.proofs.lemmas.Bool.{or_cases}
 use Rattle.sync_path.specs.Path.{path_cmp, is_under}
 use Rattle.entry_tree.specs.Tree.{Names, ByPath}
 use Rattle.entry_tree.specs.declared.atom.Atom.{Atom}
-use Rattle.mode_rules.specs.declared.mode.Mode.TheVariants.{TwoWaySafe}
+use Rattle.entry_tree.specs.declared.side.Side.TheVariants.{Alpha, Beta}
+use Rattle.mode_rules.specs.declared.mode.Mode.{Mode}
+use Rattle.mode_rules.specs.declared.mode.Mode.TheVariants.{TwoWaySafe, TwoWayResolved, OneWaySafe, OneWayReplica}
 use Rattle.mode_rules.specs.declared.standing.Standing.{Standing}
 use Rattle.mode_rules.specs.declared.verdict.Verdict.{Verdict}
 use Rattle.mode_rules.specs.declared.verdict.Verdict.TheVariants as verdicts
@@ -87,11 +89,82 @@ takes_by t path verdicts.Agreed h = tt
 takes_by t path verdicts.BetaKeeps h = tt
 takes_by t path verdicts.Both h = tt
 
-pub takes_only : (t : Trees) (path : Names) → IfSome (change_at TwoWaySafe t path) (TakesOnlyTheAncestors t)
+or_second : (a b : Bool) → b ≡ true → (a || b) ≡ true
+or_second true b e = refl
+or_second false b e = e
+
+one_way_licence : (sa : Standing) (b bl holds : Bool) → Licence sa (record { same = b; less = bl }) (by_mode OneWaySafe holds sa (record { same = b; less = bl }))
+one_way_licence sa b true holds = or_second b true refl
+one_way_licence sa b false true = tt
+one_way_licence sa b false false = tt
+
+takes_only : (mode : Mode) → ((sa sb : Standing) (holds : Bool) → Licence sa sb (by_mode mode holds sa sb)) → (t : Trees) (path : Names)
+    → IfSome (change_at mode t path) (TakesOnlyTheAncestors t)
 unfolding change_at
-takes_only t path =
+takes_only mode licence t path =
     let sa : Standing = standing t t.alpha path in
     let sb : Standing = standing t t.beta path in
-    takes_by t path (verdict TwoWaySafe t path)
-    (by_case (Licence sa sb) TwoWaySafe (trees.get t.alpha path) (trees.get t.beta path) sa sb (λ _ _. tt) (λ _. tt) (λ _ _. tt) (λ _. tt)
-    (λ _ _ _ _. licence_by sa.same sa.less sb.same sb.less (is_some (trees.get t.alpha path))))
+    takes_by t path (verdict mode t path)
+    (by_case (Licence sa sb) mode (trees.get t.alpha path) (trees.get t.beta path) sa sb (λ _ _. tt) (λ _. tt) (λ _ _. tt) (λ _. tt)
+    (λ _ _ _ _. licence sa sb (is_some (trees.get t.alpha path))))
+
+pub two_way_takes : (t : Trees) (path : Names) → IfSome (change_at TwoWaySafe t path) (TakesOnlyTheAncestors t)
+two_way_takes t path = takes_only TwoWaySafe (λ sa sb holds. licence_by sa.same sa.less sb.same sb.less holds) t path
+
+pub one_way_takes : (t : Trees) (path : Names) → IfSome (change_at OneWaySafe t path) (TakesOnlyTheAncestors t)
+one_way_takes t path = takes_only OneWaySafe (λ sa sb holds. one_way_licence sa sb.same sb.less holds) t path
+
+-- alpha's standing where alpha is changed
+abbrev AlphaLicence : Standing → Verdict → Type 0
+AlphaLicence sa verdicts.AlphaTakes = (sa.same || sa.less) ≡ true
+AlphaLicence sa verdicts.AlphaEmptied = (sa.same || sa.less) ≡ true
+AlphaLicence sa verdicts.BetaTakes = Unit {0}
+AlphaLicence sa verdicts.BetaEmptied = Unit {0}
+AlphaLicence sa verdicts.Left = Unit {0}
+AlphaLicence sa verdicts.Blocked = Unit {0}
+AlphaLicence sa verdicts.Gone = Unit {0}
+AlphaLicence sa verdicts.Agreed = Unit {0}
+AlphaLicence sa verdicts.BetaKeeps = Unit {0}
+AlphaLicence sa verdicts.Both = Unit {0}
+
+-- in every mode alpha is changed only where it is as the ancestor or less
+alpha_licence : (mode : Mode) (a al b bl holds : Bool)
+    → AlphaLicence (record { same = a; less = al }) (by_mode mode holds (record { same = a; less = al }) (record { same = b; less = bl }))
+alpha_licence TwoWaySafe true al b bl holds = refl
+alpha_licence TwoWaySafe false al true bl holds = tt
+alpha_licence TwoWaySafe false true false true true = refl
+alpha_licence TwoWaySafe false true false true false = tt
+alpha_licence TwoWaySafe false true false false holds = refl
+alpha_licence TwoWaySafe false false false true holds = tt
+alpha_licence TwoWaySafe false false false false holds = tt
+alpha_licence TwoWayResolved true al b bl holds = refl
+alpha_licence TwoWayResolved false al b bl holds = tt
+alpha_licence OneWaySafe a al b true holds = tt
+alpha_licence OneWaySafe a al b false true = tt
+alpha_licence OneWaySafe a al b false false = tt
+alpha_licence OneWayReplica a al b bl holds = tt
+
+beta_is_not_alpha : Beta ≡ Alpha → ⊥
+beta_is_not_alpha e = cc
+
+alpha_by : (t : Trees) (path : Names) (v : Verdict) → AlphaLicence (standing t t.alpha path) v
+    → IfSome (change_by t path v) (λ change. change.side ≡ Alpha → TakesOnlyTheAncestors t change)
+alpha_by t path verdicts.AlphaTakes h = λ _. of_alpha t path h
+alpha_by t path verdicts.AlphaEmptied h = λ _. of_alpha t path h
+alpha_by t path verdicts.BetaTakes h = λ beta. absurd (beta_is_not_alpha beta)
+alpha_by t path verdicts.BetaEmptied h = λ beta. absurd (beta_is_not_alpha beta)
+alpha_by t path verdicts.Left h = tt
+alpha_by t path verdicts.Blocked h = tt
+alpha_by t path verdicts.Gone h = tt
+alpha_by t path verdicts.Agreed h = tt
+alpha_by t path verdicts.BetaKeeps h = tt
+alpha_by t path verdicts.Both h = tt
+
+pub alpha_takes : (mode : Mode) (t : Trees) (path : Names) → IfSome (change_at mode t path) (λ change. change.side ≡ Alpha → TakesOnlyTheAncestors t change)
+unfolding change_at
+alpha_takes mode t path =
+    let sa : Standing = standing t t.alpha path in
+    let sb : Standing = standing t t.beta path in
+    alpha_by t path (verdict mode t path)
+    (by_case (AlphaLicence sa) mode (trees.get t.alpha path) (trees.get t.beta path) sa sb (λ _ _. tt) (λ _. tt) (λ _ _. tt) (λ _. tt)
+    (λ _ _ _ _. alpha_licence mode sa.same sa.less sb.same sb.less (is_some (trees.get t.alpha path))))

@@ -16,12 +16,8 @@ use Rattle.mode_rules.specs.declared.verdict.Verdict.{Verdict}
 use Rattle.mode_rules.specs.declared.verdict.Verdict.TheVariants as verdicts
 use Rattle.mode_rules.specs.Trees.{Trees, is_blocked, holds_tracked, same_there}
 use Rattle.mode_rules.specs.Verdicts.{by_mode, first_case, standing, verdict}
+use Rattle.mode_rules.proofs.Cases.{by_case}
 use Rattle.mode_rules.specs.Plans.{change_at, change_by, conflict_at, conflict_by}
-
--- what holds of both holds of the one that a test takes
-pick : {X : Type 0} (P : X → Type 0) (test : Bool) (x y : X) → P x → P y → P (cond test x y)
-pick P true x y p q = p
-pick P false x y p q = q
 
 kept_first : {Y : Type 0} (P : Y → Type 0) (o : Option Y) (ys : List Y) → IfSome o P → AllByRecursion P ys → AllByRecursion P (cons_option o ys)
 kept_first P None ys h rest = rest
@@ -41,52 +37,29 @@ none_kept f each (x ∷ xs) = subst (λ o. cons_option o (filter_map f xs) ≡ [
 abbrev BetaAlone : Verdict → Type 0
 BetaAlone v = (t : Trees) (path : Names) → IfSome (change_by t path v) (λ change. change.side ≡ Beta)
 
-left_beta : BetaAlone verdicts.Left
-left_beta t path = tt
-
-blocked_beta : BetaAlone verdicts.Blocked
-blocked_beta t path = tt
-
-gone_beta : BetaAlone verdicts.Gone
-gone_beta t path = tt
-
-agreed_beta : BetaAlone verdicts.Agreed
-agreed_beta t path = tt
-
-both_beta : BetaAlone verdicts.Both
-both_beta t path = tt
-
-keeps_beta : BetaAlone verdicts.BetaKeeps
-keeps_beta t path = tt
-
-takes_beta : BetaAlone verdicts.BetaTakes
-takes_beta t path = refl
+safe_by_mode : (sa sb : Standing) (h : Bool) → BetaAlone (by_mode OneWaySafe h sa sb)
+safe_by_mode sa sb h = by sb.less h
+  where
+    by : (less h : Bool) → BetaAlone (by_mode OneWaySafe h sa (record { same = sb.same; less = less }))
+    by true h = λ t path. refl
+    by false true = λ t path. tt
+    by false false = λ t path. tt
 
 -- the cases before the mode change nothing
-beta_by_case : (mode : Mode) (a b : Option Atom) (sa sb : Standing) → BetaAlone (by_mode mode (is_some a) sa sb) → BetaAlone (first_case mode a b sa sb)
-beta_by_case mode a b sa sb by =
-    pick BetaAlone (is_blocked a || is_blocked b)
-    (cond (holds_tracked a || holds_tracked b) verdicts.Blocked verdicts.Left)
-    (cond (not (is_some a) && not (is_some b)) verdicts.Gone (cond (same_there a b) verdicts.Agreed (by_mode mode (is_some a) sa sb)))
-    (pick BetaAlone (holds_tracked a || holds_tracked b) verdicts.Blocked verdicts.Left blocked_beta left_beta)
-    (pick BetaAlone (not (is_some a) && not (is_some b)) verdicts.Gone (cond (same_there a b) verdicts.Agreed (by_mode mode (is_some a) sa sb)) gone_beta
-    (pick BetaAlone (same_there a b) verdicts.Agreed (by_mode mode (is_some a) sa sb) agreed_beta by))
-
-safe_by_mode : (sa sb : Standing) (h : Bool) → BetaAlone (by_mode OneWaySafe h sa sb)
-safe_by_mode sa sb h =
-    pick BetaAlone sb.less verdicts.BetaTakes (cond h verdicts.Both verdicts.BetaKeeps) takes_beta
-    (pick BetaAlone h verdicts.Both verdicts.BetaKeeps both_beta keeps_beta)
+beta_by_case : (mode : Mode) → ((sa sb : Standing) (h : Bool) → BetaAlone (by_mode mode h sa sb)) → (t : Trees) (path : Names)
+    → IfSome (change_by t path (verdict mode t path)) (λ change. change.side ≡ Beta)
+beta_by_case mode by t path =
+    by_case BetaAlone mode (trees.get t.alpha path) (trees.get t.beta path) (standing t t.alpha path) (standing t t.beta path)
+    (λ _ _ t path. tt) (λ _ t path. tt) (λ _ _ t path. tt) (λ _ t path. tt)
+    (λ _ _ _ _. by (standing t t.alpha path) (standing t t.beta path) (is_some (trees.get t.alpha path))) t path
 
 pub safe_beta : (t : Trees) (path : Names) → IfSome (change_at OneWaySafe t path) (λ change. change.side ≡ Beta)
 unfolding change_at
-safe_beta t path =
-    beta_by_case OneWaySafe (trees.get t.alpha path) (trees.get t.beta path) (standing t t.alpha path) (standing t t.beta path)
-    (safe_by_mode (standing t t.alpha path) (standing t t.beta path) (is_some (trees.get t.alpha path))) t path
+safe_beta t path = beta_by_case OneWaySafe safe_by_mode t path
 
 pub replica_beta : (t : Trees) (path : Names) → IfSome (change_at OneWayReplica t path) (λ change. change.side ≡ Beta)
 unfolding change_at
-replica_beta t path =
-    beta_by_case OneWayReplica (trees.get t.alpha path) (trees.get t.beta path) (standing t t.alpha path) (standing t t.beta path) takes_beta t path
+replica_beta t path = beta_by_case OneWayReplica (λ sa sb h t path. refl) t path
 
 -- where both sides hold the same, nothing is there, or it is agreed, or it is left
 equal_case : (P : Verdict → Type 0) (mode : Mode) (a : Option Atom) (sa sb : Standing) → P verdicts.Gone → P verdicts.Agreed → P verdicts.Left → P (first_case mode a a sa sb)

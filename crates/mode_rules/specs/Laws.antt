@@ -32,6 +32,11 @@ TakesOnlyTheAncestors t change = (path : Names) (atom : Atom)
 abbrev pub TakesNothingElse : Mode → Type 0
 TakesNothingElse mode = (t : Trees) → AllByRecursion (TakesOnlyTheAncestors t) (plan_of mode t).changes
 
+-- each change of alpha in the plan does
+abbrev pub TakesNothingElseOfAlpha : Mode → Type 0
+TakesNothingElseOfAlpha mode = (t : Trees)
+    → AllByRecursion (λ (change : Change). change.side ≡ Alpha → TakesOnlyTheAncestors t change) (plan_of mode t).changes
+
 -- each change of the plan is one of beta
 abbrev pub ChangesBetaAlone : Mode → Type 0
 ChangesBetaAlone mode = (t : Trees) → AllByRecursion (λ (change : Change). change.side ≡ Beta) (plan_of mode t).changes

@@ -1,11 +1,17 @@
 //! What every plan keeps to, for all trees. Each law is the contract of a function that does nothing.
-ghost use Rattle.mode_rules.specs.Laws.{TakesNothingElse, ChangesBetaAlone, LeavesEqualSides, MakesSidesMeet, TreatsSidesAlike};
+ghost use Rattle.mode_rules.specs.Laws.{TakesNothingElse, TakesNothingElseOfAlpha, ChangesBetaAlone, LeavesEqualSides, MakesSidesMeet, TreatsSidesAlike};
 ghost use Rattle.mode_rules.specs.declared.mode.Mode.{Mode};
 
-/// In two-way-safe a side is changed only where all that it holds at and below the path, what is untracked apart, is what the ancestor holds in the same
+/// In both safe modes a side is changed only where all that it holds at and below the path, what is untracked apart, is what the ancestor holds in the same
 /// place: nothing else is taken away or replaced.
-pub fn two_way_safe_takes_only_the_ancestors()
-    ensures { TakesNothingElse Mode.TwoWaySafe }
+pub fn safe_modes_take_only_the_ancestors()
+    ensures two_way { TakesNothingElse Mode.TwoWaySafe }
+    ensures one_way { TakesNothingElse Mode.OneWaySafe }
+{}
+
+/// In every mode that is so of alpha: nothing of alpha is taken away or replaced but what the ancestor holds.
+pub fn alpha_loses_only_the_ancestors()
+    ensures { (mode : Mode) → TakesNothingElseOfAlpha mode }
 {}
 
 /// In two-way-safe it makes no difference which side is called alpha: with the sides in each other's place the plan is the same, each side's part in the
