@@ -1,7 +1,6 @@
 -- Laws of every plan: what the cases allow, and what that makes of the lists.
-use Rattle.std.proofs.Common.{◌≡◌, Bool, true, false, cond, not, ◌||◌, List, [], ◌∷◌, refl, sym, subst, Option, Some, None, IfSome}
+use Rattle.std.proofs.Common.{◌≡◌, Bool, true, false, cond, List, [], ◌∷◌, refl, sym, subst, Option, Some, None, IfSome}
 use Rattle.std.specs.List.{AllByRecursion, filter_map, cons_option}
-use Rattle.std.specs.Prelude.{◌&&◌}
 use Rattle.std.specs.Option.{is_some}
 use Rattle.std.specs.FinMap as trees
 use Rattle.std.proofs.lemmas.Slice.Eq.{bytes_eq-Decides}
@@ -14,7 +13,7 @@ use Rattle.mode_rules.specs.declared.mode.Mode.TheVariants.{OneWaySafe, OneWayRe
 use Rattle.mode_rules.specs.declared.standing.Standing.{Standing}
 use Rattle.mode_rules.specs.declared.verdict.Verdict.{Verdict}
 use Rattle.mode_rules.specs.declared.verdict.Verdict.TheVariants as verdicts
-use Rattle.mode_rules.specs.Trees.{Trees, is_blocked, holds_tracked, same_there}
+use Rattle.mode_rules.specs.Trees.{Trees}
 use Rattle.mode_rules.specs.Verdicts.{by_mode, first_case, standing, verdict}
 use Rattle.mode_rules.proofs.Cases.{by_case}
 use Rattle.mode_rules.specs.Plans.{change_at, change_by, conflict_at, conflict_by}
