@@ -1,0 +1,4 @@
+pub mod Reaching
+pub mod Handing
+pub mod Made
+pub mod Whole

@@ -1,0 +1,26 @@
+//! A forwarding link as one value: two joined ends, and the bytes between them.
+//!
+//! A `MuxPair` holds the near end and the far end of a connection, each with the reader of what comes to
+//! it. Its one call `step` makes one thing happen: a call of a user at one end, a move of bytes that wait
+//! at one end to the other, or a cut. Contracts see the world of `mux_core`, and each step is a step of
+//! that world, so its law holds of every list of steps (`laws`). In it no end refuses a frame of the
+//! other and no reader its bytes, so a `LinkReply` has no word for that.
+#![tactic(auto)]
+
+mod calls;
+mod carrying;
+mod laws;
+mod op;
+mod pair;
+mod post;
+mod reply;
+mod side;
+
+pub use laws::joined_pair;
+pub use op::{LinkBytes, LinkOp};
+pub use pair::MuxPair;
+pub use reply::LinkReply;
+pub use side::Side2;
+
+#[cfg(test)]
+mod tests;
