@@ -159,6 +159,21 @@ takes-append (Err error) e f xs ys is = cc
 takes-append (Ok done) e f [] ys is = ap (λ (x : Result Unit MuxError × End). takes x ys) is
 takes-append (Ok done) e f (x ∷ xs) ys is = takes-append (frame_step e x).0 (frame_step e x).1 f xs ys is
 
+-- what waits behind two parts
+sent_join : (from from_mid from_after : Post) (a b : ℕ) → a + b ≤ length from.end.waiting → from_mid ≡ record { end = without_front from.end a; reader = from.reader }
+    → from_after ≡ record { end = without_front from_mid.end b; reader = from_mid.reader } → from_after ≡ record { end = without_front from.end (a + b); reader = from.reader }
+sent_join from from_mid from_after a b fits one two =
+    let waiting = from.end.waiting in
+    let left : Post = record { end = taken_out from.end a; reader = from.reader } in
+    let all : Post = record { end = without_front from.end (a + b); reader = from.reader } in
+    let size : min b (length (drop a waiting)) ≡ b = omega (arith, length-drop a waiting) in
+    let sum : a + b ≡ min (a + b) (length waiting) = omega arith in
+    let mid_is : from_mid ≡ left = one ∙ ap (λ (e : End). record { end = e; reader = from.reader }) (without_is from a (omega arith)) in
+    let second : record { end = without_front from_mid.end b; reader = from_mid.reader } ≡ record { end = without_front left.end b; reader = from.reader } = ap (λ (x : Post). record { end = without_front x.end b; reader = x.reader }) mid_is in
+    let rest : drop (min b (length (drop a waiting))) (drop a waiting) ≡ drop (min (a + b) (length waiting)) waiting = ap (λ (n : ℕ). drop n (drop a waiting)) size ∙ drop-drop b a waiting ∙ ap (λ (n : ℕ). drop n waiting) sum in
+    let last : record { end = without_front left.end b; reader = from.reader } ≡ all = ap (λ (xs : List ℕ). record { end = record from.end { waiting = xs }; reader = from.reader }) rest in
+    ◌∙◌ {b = record { end = without_front from_mid.end b; reader = from_mid.reader }} two (◌∙◌ {b = record { end = without_front left.end b; reader = from.reader }} second last)
+
 -- what goes over in two parts goes over
 pub went_join : (from to from_mid to_mid from_after to_after : Post) (a b : ℕ) → a + b ≤ length from.end.waiting → Went from to a from_mid to_mid → Went from_mid to_mid b from_after to_after → Went from to (a + b) from_after to_after
 went_join from to from_mid to_mid from_after to_after a b fits one two =
@@ -171,8 +186,6 @@ went_join from to from_mid to_mid from_after to_after a b fits one two =
     let splits = splits_join (to.reader.held ++ front from.end a) (front from_mid.end b) one.frames two.frames to_mid.reader.held to_after.reader.held one.reads.splits two.reads.splits in
     let bytes : (to.reader.held ++ front from.end a) ++ front from_mid.end b ≡ to.reader.held ++ front from.end (a + b) =
     append_assoc to.reader.held (front from.end a) (front from_mid.end b) ∙ ap (λ (xs : List ℕ). to.reader.held ++ xs) (sym front_both) in
-    let rest : drop (min b (length (drop a waiting))) (drop a waiting) ≡ drop (min (a + b) (length waiting)) waiting =
-    ap (λ (n : ℕ). drop n (drop a waiting)) (let m : min b (length (drop a waiting)) ≡ b = omega (arith, length-drop a waiting) in m) ∙ drop-drop b a waiting ∙ ap (λ (n : ℕ). drop n waiting) (let m : a + b ≡ min (a + b) (length waiting) = omega arith in m) in
     let size : length (stream_of (one.frames ++ two.frames)) ≡ length (stream_of one.frames) + length (stream_of two.frames) =
     ap length (flat_map-append spelling one.frames two.frames) ∙ length-append (stream_of one.frames) (stream_of two.frames) in
     record {
@@ -184,8 +197,7 @@ went_join from to from_mid to_mid from_after to_after a b fits one two =
         sound = two.reads.sound;
       };
       came = takes-append (Ok tt) to.end to_mid.end one.frames two.frames one.came ∙ two.came;
-      sent = two.sent ∙ ap (λ (x : Post). record { end = without_front x.end b; reader = x.reader }) (one.sent ∙ ap (λ (e : End). record { end = e; reader = from.reader }) (without_is from a (omega arith)))
-          ∙ ap (λ (xs : List ℕ). record { end = record from.end { waiting = xs }; reader = from.reader }) rest;
+      sent = sent_join from from_mid from_after a b fits one.sent two.sent;
     }
 
 -- nothing goes over

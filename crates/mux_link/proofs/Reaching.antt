@@ -29,6 +29,10 @@ pub joint_of : (side : Side) (from to : Post) (r : IsReached (posts side from to
 joint_of Near from to r = always r.0 (posts Near from to) r.1 Near
 joint_of Far from to r = always r.0 (posts Far from to) r.1 Far
 
+-- the last number is one
+pub last_small : (w : World) → IsReached w → w.near.end.last < 2 ^ 32
+last_small w r = (always r.0 w r.1 Near).pair.law.small
+
 pub near_is : (w : World) → IsReached w → w.near.end.near ≡ true
 near_is w r = (always r.0 w r.1 Near).pair.which
 

@@ -1,5 +1,5 @@
 -- What a step of a pair answers and leaves.
-use Rattle.std.specs.Prelude.{◌≡◌}
+use Rattle.std.specs.Prelude.{◌≡◌, Bool, true, false}
 use Rattle.mux_core.specs.Ends.{End, cut_off}
 use Rattle.mux_core.specs.Worlds.{World, Side, Near, Far, other, at, with_end}
 use Rattle.mux_link.specs.declared.op.LinkOp.{LinkOp}
@@ -13,6 +13,11 @@ use Rattle.mux_link.specs.Moves.{Moves}
 -- a call at the end of one side; all else stays
 abbrev pub OnEnd : World → Side → (End → End → Type 0) → World → Type 0
 OnEnd w side Makes v = Makes (at w side).end (at v side).end × (v ≡ with_end w side (at v side).end)
+
+-- the operation cuts the link
+abbrev pub is_cutting : LinkOp → Bool
+is_cutting ops.Cut = true
+is_cutting _ = false
 
 -- both ends learn that the link was cut
 abbrev pub cut_both : World → World
