@@ -1,0 +1,66 @@
+// What a root answers.
+ghost use Rattle.std.specs.Prelude.{◌≡◌, IfOk};
+
+use crate::content::Content;
+use crate::rows::Rows;
+use entry_tree::{Digest, Entry, Node, Stamp};
+use std::alloc::{AllocError, Global};
+
+/// How full a root's log is.
+#[derive(Clone, Copy, Debug, PartialEq, Eq)]
+pub struct Room {
+    /// The size of the log.
+    pub log: u64,
+    /// The number of bytes held.
+    pub bytes: u64,
+}
+
+/// What a root answers to an operation. The bytes of a piece are of the type `B`: a log keeps only where they are.
+///
+/// What was found is what stood at the path, and of `NoParent` what stood at the path's parent.
+#[derive(Debug, Drop)]
+pub enum Answer<B = Content> {
+    /// The names in the folder, with their entries.
+    Listed(Rows),
+    /// No folder stands there.
+    Held(Option<Entry>),
+    /// The bytes from the offset on.
+    Piece {
+        bytes: B,
+        /// Whether they reach the end of the file.
+        last: bool,
+    },
+    /// The file with the stamp doesn't stand there.
+    Changed(Option<Entry>),
+    /// The file has so many bytes, more than `MAX_FETCH`.
+    TooLarge(u64),
+    /// Nothing is staged.
+    Cleared,
+    /// A staged file is begun.
+    Opened,
+    /// The staged file is kept.
+    Kept,
+    /// No staged file is begun, or no bytes of the digest are kept.
+    NotStaged,
+    /// The staged file has another digest, and is dropped.
+    DigestDiffers {
+        /// The digest that was asked for.
+        wanted: Digest,
+        /// The digest of the staged bytes.
+        got: Digest,
+    },
+    /// It is done. A file that was placed has this stamp.
+    Done(Option<Stamp>),
+    /// No folder stands at the path's parent.
+    NoParent(Option<Entry>),
+    /// Something else stands there than was expected.
+    Differs(Option<Entry>),
+    /// The root keeps no links.
+    NoLink,
+    /// The folder has names.
+    NotEmpty,
+    /// There is no room; nothing is done.
+    Full(Room),
+    /// The root failed; nothing is done.
+    Failed,
+}

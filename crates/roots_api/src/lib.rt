@@ -1,0 +1,35 @@
+//! What a root is asked, what it answers, and what its log says.
+//!
+//! A root is a file tree that sessions change by one checked operation at a time, an [`Op`], while editors change it in
+//! between, by an [`Edit`]. Each that was done or answered is an [`Event`] of the root's log. A root's state is the fold of
+//! its log: `answer_of` and `after` of `specs/Steps.antt` say what an operation answers on a state and what it makes of it,
+//! `specs/Edits.antt` says it of edits, and `specs/Logs.antt` says which logs are legal.
+//!
+//! [`Root`] is one root, [`Roots`] are several with names.
+#![tactic(auto)]
+
+mod answer;
+mod content;
+mod edit;
+mod edit_error;
+mod event;
+mod leaf;
+mod limits;
+mod op;
+mod rows;
+mod stamps;
+mod tracked;
+mod who;
+
+pub use answer::{Answer, Room};
+pub use content::Content;
+pub use edit::Edit;
+pub use edit_error::EditError;
+pub use event::{Deed, Event, Span};
+pub use leaf::Leaf;
+pub use limits::{MAX_BYTES_HELD, MAX_FETCH, MAX_LOG_SIZE, MAX_PIECE};
+pub use op::Op;
+pub use rows::Rows;
+pub use stamps::Stamps;
+pub use tracked::Tracked;
+pub use who::Who;
