@@ -4,4 +4,5 @@ pub mod Expected
 pub mod Logs
 pub mod States
 pub mod Steps
+pub mod Told
 pub mod Views

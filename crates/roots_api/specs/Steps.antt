@@ -1,11 +1,10 @@
 -- What a root answers to an operation of a session, and what it makes of it.
 use Rattle.std.specs.Prelude.{ℕ, ◌+◌, Bool, ◌&&◌, cond, List, [], ◌∷◌, ◌++◌, length, take, drop, nat_lt, nat_le, bytes_eq, Option, Some, None, is_some, unwrap_or}
 use Rattle.std.specs.FinMap as map
-use Rattle.std.specs.List.{filter_map}
 use Rattle.std.specs.Option.{option_map, option_map_or}
 use Rattle.sha2.specs.Sha256.{sha256}
 use Rattle.entry_tree.specs.Entry.{is_dir}
-use Rattle.entry_tree.specs.Tree.{Names, ByPath, name_below, holds_folder, has_below, set_at, without_under}
+use Rattle.entry_tree.specs.Tree.{Names, ByPath, children_below, holds_folder, has_below, set_at, without_under}
 use Rattle.entry_tree.specs.declared.entry.Entry.{Entry}
 use Rattle.entry_tree.specs.declared.entry.Entry.TheVariants.{Dir, File, Link}
 use Rattle.entry_tree.specs.declared.entry.Stamp.{Stamp}
@@ -16,10 +15,6 @@ use Rattle.roots_api.specs.declared.answer.Answer.TheVariants.{Listed, Held, Pie
 use Rattle.roots_api.specs.declared.limits.TheConstants.{MAX_FETCH, MAX_PIECE}
 use Rattle.roots_api.specs.declared.op.Op.{Op}
 use Rattle.roots_api.specs.declared.op.Op.TheVariants.{List as OpList, Fetch, StageClear, StageOpen, StageAppend, StageKeep, Place, MakeDir, MakeLink, Remove}
-
--- the names directly below a path with their entries, in the order of the names
-abbrev pub rows_below : ByPath Entry → Names → List (List ℕ × Entry)
-rows_below tree path = filter_map (λ e. option_map (λ name. (name, e.1)) (name_below e.0 path)) (map.entries tree)
 
 -- a piece of a content, from a byte of it on
 abbrev pub piece_of : List ℕ → ℕ → Answer (List ℕ)
@@ -45,7 +40,7 @@ where_expected tree path expected answer =
 -- the root is bounded.)
 abbrev pub answer_of : RootState → ℕ → Op → Answer (List ℕ)
 answer_of s id (OpList path) =
-    cond (holds_folder is_dir (map.get s.tree path)) (Listed (rows_below s.tree path)) (Held (map.get s.tree path))
+    cond (holds_folder is_dir (map.get s.tree path)) (Listed (children_below s.tree path)) (Held (map.get s.tree path))
 answer_of s id (Fetch path stamp offset) =
     cond (is_expected (map.get s.tree path) (Some (File stamp))) (piece_of (content_of s.ledger stamp) offset)
     (Changed (map.get s.tree path))
