@@ -1,5 +1,5 @@
 -- What an edit needs, and what it makes of a root.
-use Rattle.std.specs.Prelude.{ℕ, Bool, cond, List, Option, Some, None, is_some}
+use Rattle.std.specs.Prelude.{Bool, cond, Option, Some, None, is_some}
 use Rattle.std.specs.FinMap as map
 use Rattle.entry_tree.specs.Entry.{is_dir}
 use Rattle.entry_tree.specs.Tree.{Names, ByPath, holds_folder, set_at, without_under}

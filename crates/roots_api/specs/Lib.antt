@@ -1,6 +1,7 @@
 pub mod Answers
 pub mod Edits
 pub mod Expected
+pub mod Laws
 pub mod Logs
 pub mod States
 pub mod Steps

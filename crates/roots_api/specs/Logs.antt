@@ -1,5 +1,5 @@
 -- Which logs are legal, and what the state of a root is after a log.
-use Rattle.std.specs.Prelude.{◌≡◌, ℕ, ◌+◌, Bool, true, false, List, [], ◌∷◌, ◌++◌, length, sum_by, count_by, Option, Some, None, ⊤, ◌⊎◌}
+use Rattle.std.specs.Prelude.{◌≡◌, ℕ, ◌+◌, Bool, true, false, List, [], ◌∷◌, length, sum_by, count_by, None, ⊤, ◌⊎◌}
 use Rattle.roots_api.specs.Answers.{is_failed}
 use Rattle.roots_api.specs.Edits.{refused_at, edited}
 use Rattle.roots_api.specs.States.{RootState, new_root}
@@ -11,7 +11,7 @@ use Rattle.roots_api.specs.declared.event.Deed.TheVariants.{Asked, Edited}
 use Rattle.roots_api.specs.declared.event.Event.{Event}
 use Rattle.roots_api.specs.declared.event.Span.{Span}
 use Rattle.roots_api.specs.declared.op.Op.{Op}
-use Rattle.roots_api.specs.declared.op.Op.TheVariants.{List as OpList, Fetch, StageClear, StageOpen, StageAppend, StageKeep, Place, MakeDir, MakeLink, Remove}
+use Rattle.roots_api.specs.declared.op.Op.TheVariants.{Fetch, StageAppend}
 use Rattle.roots_api.specs.declared.who.Who.{Who}
 use Rattle.roots_api.specs.declared.who.Who.TheVariants.{Editor, Session}
 

@@ -1,5 +1,5 @@
 -- What a root answers to an operation of a session, and what it makes of it.
-use Rattle.std.specs.Prelude.{ℕ, ◌+◌, Bool, ◌&&◌, cond, List, [], ◌∷◌, ◌++◌, length, take, drop, nat_lt, nat_le, bytes_eq, Option, Some, None, is_some, unwrap_or}
+use Rattle.std.specs.Prelude.{ℕ, ◌+◌, ◌&&◌, cond, List, [], ◌++◌, length, take, drop, nat_lt, nat_le, bytes_eq, Option, Some, None, is_some, unwrap_or}
 use Rattle.std.specs.FinMap as map
 use Rattle.std.specs.Option.{option_map, option_map_or}
 use Rattle.sha2.specs.Sha256.{sha256}
@@ -7,7 +7,6 @@ use Rattle.entry_tree.specs.Entry.{is_dir}
 use Rattle.entry_tree.specs.Tree.{Names, ByPath, children_below, holds_folder, has_below, set_at, without_under}
 use Rattle.entry_tree.specs.declared.entry.Entry.{Entry}
 use Rattle.entry_tree.specs.declared.entry.Entry.TheVariants.{Dir, File, Link}
-use Rattle.entry_tree.specs.declared.entry.Stamp.{Stamp}
 use Rattle.roots_api.specs.Answers.{is_done, is_dropped}
 use Rattle.roots_api.specs.States.{RootState, Staged, staged_by, kept_by, content_of, next_stamp, is_expected, missing_parent, with_tree, with_staged, without_staged, with_file}
 use Rattle.roots_api.specs.declared.answer.Answer.{Answer}

@@ -13,6 +13,7 @@ mod content;
 mod edit;
 mod edit_error;
 mod event;
+pub mod laws;
 mod leaf;
 mod limits;
 mod op;
@@ -39,3 +40,6 @@ pub use rows::Rows;
 pub use stamps::Stamps;
 pub use tracked::Tracked;
 pub use who::Who;
+
+#[cfg(test)]
+mod tests;

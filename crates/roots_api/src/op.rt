@@ -13,7 +13,9 @@ use sync_path::Path;
 #[derive(Debug, Drop)]
 pub enum Op {
     /// The names in a folder, with their entries.
-    List { path: Path },
+    List {
+        path: Path,
+    },
     /// A piece of a file, from a byte of it on.
     Fetch {
         path: Path,
@@ -27,9 +29,13 @@ pub enum Op {
     /// Begins a new staged file, and drops one that isn't finished.
     StageOpen,
     /// Adds bytes to the staged file.
-    StageAppend { bytes: Content },
+    StageAppend {
+        bytes: Content,
+    },
     /// Keeps the staged file under its digest.
-    StageKeep { digest: Digest },
+    StageKeep {
+        digest: Digest,
+    },
     /// Makes a file of kept bytes, which stay kept.
     Place {
         path: Path,
@@ -39,7 +45,9 @@ pub enum Op {
         expected: Option<Leaf>,
     },
     /// Makes a folder where nothing stands.
-    MakeDir { path: Path },
+    MakeDir {
+        path: Path,
+    },
     /// Makes a link.
     MakeLink {
         path: Path,

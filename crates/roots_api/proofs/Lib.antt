@@ -1,0 +1,5 @@
+pub mod Expecting
+pub mod Folds
+pub mod Ledgers
+pub mod Stagings
+pub mod TreesKept

@@ -1,0 +1,41 @@
+//! What every state, every step and every log keeps to. Each law is the contract of a function that does nothing.
+ghost use Rattle.roots_api.specs.Laws.{UndoneLeavesTree, FailedLeavesAll, PlacesWhereExpected, MakesDirWhereNothing, MakesLinkWhereExpected, RemovesWhereExpected, AnswersInRow, StagesApart, EditsLeaveStaging, ClearsAll, LedgerGrows, StampsName, TreesAreClosed, KeepsByDigest};
+
+/// An operation that isn't done leaves tree and ledger, and one that failed leaves all.
+pub fn undone_leaves_the_tree()
+    ensures undone { UndoneLeavesTree }
+    ensures failed { FailedLeavesAll }
+{}
+
+/// What changes the tree is done only where what it expects stands there, stamp included, and its parent is a folder. A
+/// folder is taken away only without names, and a file is placed only of kept bytes.
+pub fn done_where_expected()
+    ensures place { PlacesWhereExpected }
+    ensures make_dir { MakesDirWhereNothing }
+    ensures make_link { MakesLinkWhereExpected }
+    ensures remove { RemovesWhereExpected }
+{}
+
+/// Each operation is answered in its row.
+pub fn answers_in_row()
+    ensures { AnswersInRow }
+{}
+
+/// No session sees what another stages, and an editor changes nothing of it.
+pub fn sessions_stage_apart()
+    ensures apart { StagesApart }
+    ensures editor { EditsLeaveStaging }
+    ensures cleared { ClearsAll }
+{}
+
+/// The content ledger only grows, so a stamp names one content for ever; and each stamp in a tree names one.
+pub fn stamps_name_contents()
+    ensures grows { LedgerGrows }
+    ensures named { StampsName }
+{}
+
+/// In a legal log trees are closed under parents, and bytes are kept under their own digest alone.
+pub fn legal_logs()
+    ensures closed { TreesAreClosed }
+    ensures kept { KeepsByDigest }
+{}
