@@ -91,6 +91,19 @@ fn walks_are_in_path_order_and_removals_take_what_is_below(rt: HostRuntime) -> R
 }
 
 #[test]
+fn children_stand_behind_folders_that_hold_more(rt: HostRuntime) -> Result<(), Fail> {
+    let alloc = rt.alloc();
+    let root = Path::root(alloc);
+    let tree = planted(alloc, &["a/", "a/x/", "a/x/y", "a ", "a!", "b/", "b/z"])?;
+    assert_eq!(rt; names(alloc, &tree, &root)?.as_str(), "a a  a! b ");
+    for child in &tree.children(alloc, &root)? {
+        let path = root.child(alloc, &child.name)?;
+        assert!(rt; tree.get(&path) == Some(child.node));
+    }
+    Ok(())
+}
+
+#[test]
 fn entries_stand_in_trees_too(rt: HostRuntime) -> Result<(), Fail> {
     let alloc = rt.alloc();
     let mut tree: TreeOf<Entry> = TreeOf::new(alloc);

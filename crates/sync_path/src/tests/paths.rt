@@ -86,6 +86,11 @@ fn a_child_and_its_parent(rt: HostRuntime) -> Result<(), Fail> {
     let parent = child.parent(alloc)?.ok_or("a parent")?;
     assert_eq!(rt; parent.write(alloc)?.as_str(), "a/b");
     let root = Path::root(alloc);
+    let mut aside = child.copy(alloc)?;
+    aside.copy_from(&path)?;
+    assert!(rt; aside == path);
+    aside.copy_from(&root)?;
+    assert!(rt; aside.is_root());
     assert!(rt; root.parent(alloc)?.is_none());
     assert!(rt; root.is_root());
     assert_eq!(rt; root.last_name(), None);
