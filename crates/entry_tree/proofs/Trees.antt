@@ -1,8 +1,8 @@
 -- Trees stay closed under parents.
-use Rattle.std.proofs.Common.{◌≡◌, ◌⊎◌, inl, inr, ℕ, Bool, true, false, cond, not, ◌||◌, List, [], ◌∷◌, ◌++◌, append_assoc, refl, sym, ap, ◌∙◌, Option, Some, None, Bor}
+use Rattle.std.proofs.Common.{◌≡◌, ◌⊎◌, inl, inr, ℕ, Bool, true, false, cond, not, ◌||◌, List, [], ◌∷◌, ◌++◌, append_assoc, refl, sym, ap, ◌∙◌, Option, Some, None}
 use Rattle.std.specs.FinMap as map
-use Rattle.std.specs.Option.{is_some, option_map, option_copied}
-use Rattle.std.specs.Ordering.{eq_by_cmp}
+use Rattle.std.specs.Option.{is_some, option_map}
+use Rattle.std.specs.Ordering.{eq_by_cmp, is_lt}
 use Rattle.sync_path.specs.Path.{path_cmp, is_under, parent_of}
 use Rattle.sync_path.specs.PathOrder.{path_cmp_total}
 use Rattle.sync_path.proofs.Intervals.{rest_from_under}
@@ -10,7 +10,7 @@ use Rattle.std.proofs.lemmas.List.{append-nil}
 use Rattle.entry_tree.specs.Tree.{Names, ByPath, is_below, holds_folder, IsClosed, set_at, without_below, without_under, at_parent, refusal}
 use Rattle.entry_tree.specs.declared.tree_error.TreeError.TheVariants.{NotDir}
 use Rattle.entry_tree.proofs.Maps.{alike}
-use Rattle.entry_tree.proofs.Paths.{path_same, tied, under_child, below_child, child_below, not_below_child, not_below_itself}
+use Rattle.entry_tree.proofs.Paths.{both_true, below_is, path_same, tied, under_child, below_child, child_below, not_below_child, not_below_itself}
 
 pub no_true : (b : Bool) → b ≡ true → b ≡ false → ⊥
 no_true b h g = let e : true ≡ false = sym h ∙ g in absurd (cc)
@@ -56,6 +56,9 @@ root_or_child (x ∷ path) =
       | inr c ↦ inr (x ∷ c.0, c.1, ap (λ l. x ∷ l) c.2)
     ]
 
+below_under : (q p : Names) → is_below q p ≡ true → is_under q p ≡ true
+below_under q p h = (both_true (is_lt (path_cmp p q)) (is_under q p) (sym (below_is q p) ∙ h)).1
+
 none_stands : {X : Type 0} (o : Option X) → (is_some o ≡ true → ⊥) → o ≡ None
 none_stands None h = refl
 none_stands (Some x) h = absurd (h refl)
@@ -97,6 +100,25 @@ module _ {X : Type 0} (is_folder : X → Bool) where
                 sym (none_stands (map.get tree q) (λ h. no_true (map.contains_key tree p) (stands_up rest.0 p (ap (map.contains_key tree) (sym rest.1) ∙ h)) (ap is_some none)))
             | false ↦ λ u. refl
           ] refl)
+
+      -- nor below it
+      nothing_below : (p : Names) → map.get tree p ≡ None → without_below tree p ≡ tree
+      nothing_below p none =
+          map.same_map path_cmp_total path_same (without_below tree p) tree
+          (λ q. get-retain (λ k. not (is_below k p)) q
+          ∙ elim (is_below q p) as (λ b. is_below q p ≡ b → cond (not b) (map.get tree q) None ≡ map.get tree q) [
+            | true ↦ λ u. let rest = rest_from_under q p (below_under q p u) in
+                sym (none_stands (map.get tree q) (λ h. no_true (map.contains_key tree p) (stands_up rest.0 p (ap (map.contains_key tree) (sym rest.1) ∙ h)) (ap is_some none)))
+            | false ↦ λ u. refl
+          ] refl)
+
+      -- so to set anything there is to put it in
+      pub set_anew : (p : Names) (x : X) → map.get tree p ≡ None → map.insert tree p x ≡ set_at is_folder tree p x
+      set_anew p x none =
+          elim (is_folder x) as (λ b. map.insert tree p x ≡ map.insert (cond b tree (without_below tree p)) p x) [
+            | true ↦ refl
+            | false ↦ ap (λ t. map.insert t p x) (sym (nothing_below p none))
+          ]
 
   -- which paths a tree keeps where x is set
   abbrev keeps : Names → X → Names → Bool
@@ -202,8 +224,3 @@ module _ {X : Type 0} (is_folder : X → Bool) where
               ∙ ap (λ (o : Option Names). refusal is_folder (option_map (map.get tree) o)) (parent-child c.0 c.1)
               ∙ folder_allowed (map.get tree c.0) folder
         ]
-
--- what is lent shows whether something is there
-pub some_copied : {X : Type 0} (r : Option (Bor X)) (o : Option X) → option_copied r ≡ o → is_some r ≡ is_some o
-some_copied None o e = ap is_some e
-some_copied (Some x) o e = ap is_some e

@@ -9,7 +9,7 @@ use crate::atom::Atom;
 use crate::child::{Child, children_in};
 use crate::node::Node;
 use crate::prune::{take_below, take_under};
-use crate::put::put;
+use crate::put::{put, replace};
 use crate::tree_error::TreeError;
 use crate::walk::Under;
 use std::alloc::{AllocError, Global};
@@ -98,15 +98,16 @@ impl<T: Node> TreeOf<T> {
         ensures in_place { IsTrue (map.contains_key self.old path.now) → result ≡ Ok tt }
         ensures err { OnErr result (self.new ≡ self.old) }
     {
-        self.check_place(alloc, path)?;
         let is_dir = node.is_dir();
-        if put(&mut self.entries, alloc, path, node).is_err() {
-            return Err(TreeError::Memory);
+        match replace(&mut self.entries, path, node) {
+            Ok(()) => {
+                if !is_dir {
+                    take_below(&mut self.entries, alloc, path);
+                }
+                Ok(())
+            }
+            Err(node) => self.set_new(alloc, path, node),
         }
-        if !is_dir {
-            take_below(&mut self.entries, alloc, path);
-        }
-        Ok(())
     }
 
     /// Takes away all at and below the path. It needs no memory.
@@ -167,17 +168,20 @@ impl<T: Node> TreeOf<T> {
         children_in(&self.entries, alloc, path)
     }
 
-    // Whether something may stand at the path: where something stands there already, it may.
-    fn check_place(&self, alloc: Global, path: &Path) -> Result<(), TreeError>
-        ensures allowed { OnOk result (refusal T.is_folder (at_parent self.now path.now) ≡ None) }
-        ensures no_parent { result ≡ Err NoParent → refusal T.is_folder (at_parent self.now path.now) ≡ Some NoParent }
-        ensures not_dir { result ≡ Err NotDir → refusal T.is_folder (at_parent self.now path.now) ≡ Some NotDir }
-        ensures in_place { IsTrue (map.contains_key self.now path.now) → result ≡ Ok tt }
+    // `set` of a path at which the tree holds nothing.
+    fn set_new(&mut self, alloc: Global, path: &Path, node: T) -> Result<(), TreeError>
+        requires { map.get self.old path.now ≡ None }
+        ensures ok { OnOk result (self.new ≡ set_at T.is_folder self.old path.now node) }
+        ensures allowed { OnOk result (refusal T.is_folder (at_parent self.old path.now) ≡ None) }
+        ensures no_parent { result ≡ Err NoParent → refusal T.is_folder (at_parent self.old path.now) ≡ Some NoParent }
+        ensures not_dir { result ≡ Err NotDir → refusal T.is_folder (at_parent self.old path.now) ≡ Some NotDir }
+        ensures err { OnErr result (self.new ≡ self.old) }
     {
-        if self.get(path).is_some() {
-            return Ok(());
+        self.check_parent(alloc, path)?;
+        if put(&mut self.entries, alloc, path, node).is_err() {
+            return Err(TreeError::Memory);
         }
-        self.check_parent(alloc, path)
+        Ok(())
     }
 
     // Whether something may stand at the path, by what stands at its parent.
