@@ -55,9 +55,9 @@ impl MuxPair {
     }
 
     /// Makes one step, and answers what came of it. A step costs its own bytes and O(log n) at n live
-    /// streams, a move besides what the frames that it completes cost, and a cut what it drops. A byte
-    /// is copied once by the write that accepts it, and once by the move that completes its frame. Want of memory changes
-    /// nothing, but that of a move the first bytes may have gone over.
+    /// streams, a move what taking the frames that it completes costs besides, and a cut what it drops.
+    /// A byte is copied once by the write that accepts it, and once by the move that completes its frame.
+    /// Want of memory changes nothing, but that of a move the first bytes may have gone over.
     pub fn step(&mut self, op: LinkOp) -> LinkReply
         ensures { Steps self.old op result self.new }
     {
