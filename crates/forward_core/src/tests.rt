@@ -124,13 +124,16 @@ const BEGUN: [(Action, Answer); 5] = [
     (Action::Open, Answer::Opened(1)),
 ];
 
+/// The first row of a new session's run whose answer is another one.
+fn run(alloc: Global, paused: bool, rows: &[(Action, Answer)]) -> Result<Option<usize>, Fail> {
+    let mut session = Forward::new(alloc, paused);
+    differs(alloc, &mut session, rows)
+}
+
 #[test]
 fn a_session_is_paused_and_resumed(rt: HostRuntime) -> Result<(), Fail> {
-    let mut session = Forward::new(rt.alloc(), false);
-    assert_eq!(rt; differs(rt.alloc(), &mut session, &PAUSED)?, None);
-    let mut session = Forward::new(rt.alloc(), false);
-    assert_eq!(rt; differs(rt.alloc(), &mut session, &CUT)?, None);
-    let mut session = Forward::new(rt.alloc(), true);
-    assert_eq!(rt; differs(rt.alloc(), &mut session, &BEGUN)?, None);
+    assert_eq!(rt; run(rt.alloc(), false, &PAUSED)?, None);
+    assert_eq!(rt; run(rt.alloc(), false, &CUT)?, None);
+    assert_eq!(rt; run(rt.alloc(), true, &BEGUN)?, None);
     Ok(())
 }
