@@ -1,5 +1,5 @@
 -- Finite maps made from the entries of a tree: what is asked of the one is answered by the other.
-use Rattle.std.proofs.Common.{◌≡◌, Bool, true, false, cond, List, [], ◌∷◌, length, refl, sym, ap, subst, ◌∙◌, Some, Ordering}
+use Rattle.std.proofs.Common.{◌≡◌, Bool, true, false, cond, List, [], ◌∷◌, length, refl, sym, ap, subst, ◌∙◌, Some, None, Ordering}
 use Rattle.std.specs.Prelude.{T, ◌&&◌}
 use Rattle.std.specs.FinMap as map
 use Rattle.std.specs.FinMap.{IsAntisymmetric}
@@ -10,6 +10,7 @@ use Rattle.std.specs.Cmp.{IsTotalOrder, eq_by_cmp_equiv}
 use Rattle.std.specs.List.{AllByRecursion}
 use Rattle.std.specs.List.Sorted.{IsStrictlySortedBy}
 use Rattle.std.specs.Map.{keys_of, lookup}
+use Rattle.std.specs.Option.{IsSome}
 use Rattle.std.specs.Ordering.{is_eq, is_lt, eq_by_cmp}
 use Rattle.std.specs.declared.cmp.Ordering.TheVariants.{Less}
 use Rattle.std.proofs.lemmas.Map.Keys.{sorted_head, sorted_tail}
@@ -58,3 +59,16 @@ module _ {K X : Type 0} {R : K → K → Ordering} (o : IsTotalOrder R) (same : 
       ∙ u.0 q
       ∙ ap (λ b. cond b (Some v) (tree.get R m q)) ((eq_by_cmp_equiv o).symm k q)
       ∙ sym (map.get-insert o (map.from_entries m.entries) k v q ∙ ap (cond (eq_by_cmp R q k) (Some v)) (get-from_tree o m q)))
+
+  -- the map of a tree from which a key was taken
+  pub remove-from_tree : (m n : BTreeMap K X) (k : K) → tree.Updates R m n k None → map.from_entries {R = R} n.entries ≡ map.remove (map.from_entries {R = R} m.entries) k
+  remove-from_tree m n k u =
+      map.same_map o same (map.from_entries n.entries) (map.remove (map.from_entries m.entries) k)
+      (λ q. get-from_tree o n q
+      ∙ u.0 q
+      ∙ ap (λ b. cond b None (tree.get R m q)) ((eq_by_cmp_equiv o).symm k q)
+      ∙ sym (map.get-remove o (map.from_entries m.entries) k q ∙ ap (cond (eq_by_cmp R q k) None) (get-from_tree o m q)))
+
+  -- the map of a tree in which a value was written through what `get_mut` lent
+  pub written-from_tree : (m n : BTreeMap K X) (k : K) (held v : X) → Some held ≡ tree.get R m k → tree.WritesThrough R (R k) m v n → map.from_entries {R = R} n.entries ≡ map.insert (map.from_entries {R = R} m.entries) k v
+  written-from_tree m n k held v at writes = insert-from_tree m n k v (writes.3 (subst IsSome at refl))
