@@ -11,7 +11,7 @@ use Rattle.sync_path.specs.Path.{path_cmp}
 use Rattle.sync_path.specs.PathOrder.{path_cmp_total}
 use Rattle.entry_tree.specs.Tree.{Names}
 use Rattle.mode_rules.specs.Trees.{Trees, paths_of}
-use Rattle.mode_rules.proofs.PathKeys.{path_same}
+use Rattle.entry_tree.proofs.Paths.{path_same}
 
 one_mark : (x y : Option (Unit {0})) → is_some x ≡ is_some y → x ≡ y
 one_mark None None e = refl

@@ -136,9 +136,10 @@ fn push_conflict(alloc: Global, text: &mut String, conflict: &Conflict) -> Resul
     Ok(())
 }
 
-// The plan as the rows write it, behind a space.
+// The plan as the rows write it, with the bar before it.
 fn plan_text(alloc: Global, plan: &Plan) -> Result<String, Fail> {
     let mut text = String::new(alloc);
+    text.push_str("|")?;
     text.push_str(match plan.halt {
         None => "",
         Some(Halt::RootDeleted) => " root-deleted",
@@ -154,7 +155,7 @@ fn plan_text(alloc: Global, plan: &Plan) -> Result<String, Fail> {
     for conflict in plan.conflicts.as_slice() {
         push_conflict(alloc, &mut text, conflict)?;
     }
-    if text.is_empty() {
+    if text.len() == 1 {
         text.push_str(" _")?;
     }
     Ok(text)

@@ -2,7 +2,7 @@ use Rattle.std.proofs.Common.{ap, ◌∙◌}
 use Rattle.std.specs.FinMap as map
 use Rattle.sync_path.specs.PathOrder.{path_cmp_total}
 use Rattle.finite_maps.proofs.TreeMaps.{insert-from_tree}
-use Rattle.mode_rules.proofs.PathKeys.{path_same}
+use Rattle.entry_tree.proofs.Paths.{path_same}
 use Rattle.mode_rules.proofs.path_set.PathSet.insert.Goals as goal
 
 pub returns : goal.returns
