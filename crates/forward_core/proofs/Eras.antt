@@ -1,5 +1,5 @@
 -- The steps of a session since its link was made are a run of that link.
-use Rattle.std.proofs.Common.{◌≡◌, ℕ, ◌<◌, ◌^◌, Bool, true, false, cond, ◌||◌, List, [], ◌∷◌, ◌++◌, refl, sym, ap, subst, ◌∙◌, arith}
+use Rattle.std.proofs.Common.{◌≡◌, ℕ, Bool, true, false, cond, ◌||◌, List, [], ◌∷◌, ◌++◌, refl, sym, ap, subst, ◌∙◌, arith}
 use Rattle.mux_core.specs.declared.answer.ReadAnswer.TheVariants as answers
 use Rattle.mux_core.specs.Worlds.{World, fresh_world}
 use Rattle.mux_core.specs.JoinedLaws.{IsInOrder, IsAllThere, IsReadToTheEnd, IsInBalance, IsWhole}
@@ -10,7 +10,6 @@ use Rattle.mux_link.specs.declared.side.Side2.{Side2}
 use Rattle.mux_link.specs.declared.reply.LinkReply.{LinkReply}
 use Rattle.mux_link.specs.declared.reply.LinkReply.TheVariants as replies
 use Rattle.mux_link.specs.Posts.{side_of}
-use Rattle.mux_link.specs.Moves.{is_cut}
 use Rattle.mux_link.specs.Steps.{Steps, cut_both, is_cutting}
 use Rattle.mux_link.specs.Laws as links
 use Rattle.mux_link.proofs.Reaching.{last_small}

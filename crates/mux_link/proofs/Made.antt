@@ -11,7 +11,7 @@ use Rattle.mux_core.specs.declared.error.OpenError.TheVariants as opening
 use Rattle.mux_core.specs.declared.stream.Stream.{Stream}
 use Rattle.mux_core.specs.Ends.{End, cut_off}
 use Rattle.mux_core.specs.Calls.{read_live}
-use Rattle.mux_core.specs.Worlds.{Side, Near, Far, other, Event, Reply, Post, World, at, with_end, Happens, Runs, Hands}
+use Rattle.mux_core.specs.Worlds.{Side, Near, Far, other, Event, Reply, Post, World, at, with_end, Happens, Runs}
 use Rattle.mux_core.specs.Worlds as worlds
 use Rattle.mux_core.specs.Histories.{sent, delivered, has_ended, has_closed, is_on}
 use Rattle.mux_link.specs.declared.op.LinkOp.{LinkOp}

@@ -2,12 +2,12 @@
 use Rattle.std.proofs.Common.{◌≡◌, ℕ, zero, suc, ◌<◌, Bool, ◌||◌, List, [], ◌∷◌, ◌++◌, refl, sym, ap, ◌∙◌, arith}
 use Rattle.std.specs.Prelude.{Ok}
 use Rattle.mux_core.specs.declared.answer.ReadAnswer.TheVariants as answers
-use Rattle.mux_core.specs.Worlds.{Side, other, Event, Reply, World, fresh_world, at, Happens}
+use Rattle.mux_core.specs.Worlds.{other, Event, Reply, World, fresh_world, Happens}
 use Rattle.mux_core.specs.Worlds as worlds
 use Rattle.mux_core.specs.Histories.{sent, delivered, has_ended, has_closed}
 use Rattle.mux_core.specs.Links.{payloads}
 use Rattle.mux_core.specs.JoinedLaws as joined
-use Rattle.mux_core.specs.JoinedLaws.{IsPrefix, IsInOrder, IsAllThere, IsReadToTheEnd, IsInBalance, IsWhole}
+use Rattle.mux_core.specs.JoinedLaws.{IsInOrder, IsAllThere, IsReadToTheEnd, IsInBalance, IsWhole}
 use Rattle.mux_core.proofs.Pasts.{sent-append, delivered-append, has_ended-append, has_closed-append}
 use Rattle.mux_core.proofs.Kept.{in_order, all_there, read_to_the_end, in_balance, whole}
 use Rattle.mux_link.specs.declared.op.LinkOp.{LinkOp}

@@ -179,11 +179,14 @@ const FRAMES: usize = 4;
 
 const FRAME_SIZE: u64 = 16_391;
 
-/// Moves the bytes of one frame one by one; none gives the reader anything before the last.
-fn moves_frame(pair: &mut MuxPair, size: u64) -> bool {
+/// How many bytes an Open has.
+const OPEN_SIZE: u64 = 5;
+
+/// Moves the bytes of one frame one by one; before the last of them, the reader is answered as before.
+fn moves_frame(pair: &mut MuxPair, size: u64, before: Answer) -> bool {
     for _ in 0..size {
         let early = pair.step(LinkOp::Read(Far, 1, 65_536));
-        if answer_of(&early) != Answer::Empty {
+        if answer_of(&early) != before {
             return false;
         }
         let moved = pair.step(LinkOp::Move(Near, 1));
@@ -198,10 +201,9 @@ fn moves_frame(pair: &mut MuxPair, size: u64) -> bool {
 fn a_reader_gets_whole_frames_wherever_the_link_is_cut(rt: HostRuntime) -> Result<(), Fail> {
     let mut pair = MuxPair::new(rt.alloc());
     assert_eq!(rt; differs(rt.alloc(), &mut pair, &CREDIT[..2])?, None);
-    let opened = pair.step(LinkOp::Move(Near, 5));
-    assert_eq!(rt; answer_of(&opened), Answer::Moved(5));
+    assert!(rt; moves_frame(&mut pair, OPEN_SIZE, Answer::NoStream));
     for _ in 0..FRAMES {
-        assert!(rt; moves_frame(&mut pair, FRAME_SIZE));
+        assert!(rt; moves_frame(&mut pair, FRAME_SIZE, Answer::Empty));
         let reply = pair.step(LinkOp::Read(Far, 1, 65_536));
         assert_eq!(rt; answer_of(&reply), Answer::Got(16_384, b'x'));
     }

@@ -14,7 +14,7 @@ use Rattle.entry_tree.proofs.Paths.{name_is}
 use Rattle.roots_api.specs.Answers.{is_done, is_dropped, in_row}
 use Rattle.roots_api.specs.Laws.{MayPlace, MayMake, MayRemove}
 use Rattle.roots_api.specs.States.{RootState, staged_by, kept_by, content_of, next_stamp, same_entry, is_expected, missing_parent}
-use Rattle.roots_api.specs.Steps.{answer_of, after, in_folder, where_expected, piece_of, keep_answer}
+use Rattle.roots_api.specs.Steps.{answer_of, after, in_folder, where_expected, keep_answer}
 use Rattle.roots_api.specs.declared.answer.Answer.{Answer}
 use Rattle.roots_api.specs.declared.answer.Answer.TheVariants.{Done, Differs, NoParent, NotStaged, NotEmpty}
 use Rattle.roots_api.specs.declared.limits.TheConstants.{MAX_FETCH}
