@@ -1,0 +1,207 @@
+// The state of a root.
+ghost use Rattle.std.specs.Prelude.{◌≡◌, [], length, IfOk, OnOk, OnErr, is_some, unwrap_or};
+ghost use Rattle.std.specs.Option.{option_copied};
+ghost use Rattle.std.specs.FinMap as map;
+ghost use Rattle.roots_api.specs.Answers.{is_done, is_dropped};
+ghost use Rattle.roots_api.specs.Edits.{edited};
+ghost use Rattle.roots_api.specs.States.{RootState, new_root, staged_by, kept_by, with_file, with_tree};
+ghost use Rattle.roots_api.specs.Steps.{after, done};
+ghost use Rattle.mem_roots.specs.MemRoot.{placed_by};
+ghost use Rattle.mem_roots.specs.Paths.{HoldsPaths};
+ghost use Rattle.entry_tree.specs.Entry.{is_dir};
+ghost use Rattle.entry_tree.specs.Tree.{set_at};
+
+use crate::kinds::{is_done, is_dropped};
+use crate::ledger::Ledger;
+use crate::staging::Staging;
+use entry_tree::{Digest, Entry, TreeOf};
+use roots_api::{Answer, Content, Edit, Op};
+use std::alloc::{AllocError, Global};
+use std::marker::Model;
+use sync_path::Path;
+
+mod answers;
+mod edits;
+mod views;
+
+/// The state of a root: its tree, its content ledger, and what sessions have staged. Contracts see a `RootState`.
+#[derive(Drop)]
+pub(crate) struct State {
+    tree: TreeOf<Entry>,
+    ledger: Ledger,
+    staging: Staging,
+}
+
+impl Model for State {
+    ghost use Rattle.roots_api.specs.States.{RootState};
+    ghost use Rattle.mem_roots.specs.Codes.{state_code};
+
+    ghost Value = { RootState };
+
+    ghost coded = { state_code };
+
+    ghost use Rattle.mem_roots.specs.Paths.{HoldsPaths};
+
+    ghost view = { λ s. record { tree = s.tree; ledger = s.ledger; staging = s.staging } };
+
+    ghost invariant = { λ s. HoldsPaths s.tree };
+}
+
+impl State {
+    /// A folder without names.
+    pub(crate) fn new(alloc: Global) -> Result<State, AllocError>
+        ensures { IfOk result (λ state. state ≡ new_root) }
+    {
+        let mut tree = TreeOf::new(alloc);
+        match tree.set(alloc, &Path::root(alloc), Entry::Dir) {
+            Ok(()) => Ok(State {
+                tree,
+                ledger: Ledger::new(alloc),
+                staging: Staging::new(alloc),
+            }),
+            Err(_) => Err(AllocError),
+        }
+    }
+
+    /// Each path at which the tree holds something is one. It does nothing.
+    pub(crate) fn holds_paths(&self)
+        ensures { HoldsPaths self.now.tree }
+    {
+        let _ = &self.tree;
+    }
+
+    /// Makes of the state what the operation with this answer makes of it. After an `Err` it is as it was.
+    ///
+    /// Cost: O(log n), and the bytes appended or placed.
+    pub(crate) fn apply(
+        &mut self,
+        alloc: Global,
+        id: u128,
+        op: &Op,
+        answer: &Answer,
+    ) -> Result<(), AllocError>
+        ensures ok { OnOk result (self.new ≡ after self.old id op.now answer.now) }
+        ensures err { OnErr result (self.new ≡ self.old) }
+    {
+        if is_done(answer) {
+            return self.act(alloc, id, op);
+        }
+        if is_dropped(answer) {
+            return self.staging.apply(alloc, id, op, false);
+        }
+        Ok(())
+    }
+
+    // Does the operation.
+    fn act(&mut self, alloc: Global, id: u128, op: &Op) -> Result<(), AllocError>
+        ensures ok { OnOk result (self.new ≡ done self.old id op.now) }
+        ensures err { OnErr result (self.new ≡ self.old) }
+    {
+        match op {
+            Op::List { .. } => Ok(()),
+            Op::Fetch { .. } => Ok(()),
+            Op::StageClear => {
+                self.staging.clear(id);
+                Ok(())
+            }
+            Op::StageOpen => self.staging.apply(alloc, id, op, true),
+            Op::StageAppend { .. } => self.staging.apply(alloc, id, op, true),
+            Op::StageKeep { .. } => self.staging.apply(alloc, id, op, true),
+            Op::Place { path, digest, .. } => self.place(alloc, id, path, digest),
+            Op::MakeDir { path } => self.set(alloc, path, Entry::Dir),
+            Op::MakeLink { path, text, .. } => match text.copy(alloc) {
+                Ok(text) => self.set(alloc, path, Entry::Link(text)),
+                Err(error) => Err(error),
+            },
+            Op::Remove { path, .. } => {
+                self.tree.remove_under(path);
+                Ok(())
+            }
+        }
+    }
+
+    // Makes a file of the bytes that the session keeps under the digest.
+    fn place(
+        &mut self,
+        alloc: Global,
+        id: u128,
+        path: &Path,
+        digest: &Digest,
+    ) -> Result<(), AllocError>
+        ensures ok { OnOk result (self.new ≡ with_file self.old path.now (unwrap_or (kept_by self.old id digest.now) [])) }
+        ensures err { OnErr result (self.new ≡ self.old) }
+    {
+        match self.kept(id, digest) {
+            Some(bytes) => match bytes.copy(alloc) {
+                Ok(bytes) => self.put(alloc, path, bytes),
+                Err(error) => Err(error),
+            },
+            None => self.put(alloc, path, Content::new(alloc)),
+        }
+    }
+
+    /// How many bytes the operation adds to the ledger. It takes no memory.
+    pub(crate) fn placed_len(&self, id: u128, op: &Op, answer: &Answer) -> usize
+        ensures { result ≡ length (placed_by self.now id op.now answer.now) }
+    {
+        match op {
+            Op::Place { digest, .. } => {
+                if is_done(answer) {
+                    self.kept_len(id, digest)
+                } else {
+                    0
+                }
+            }
+            _ => 0,
+        }
+    }
+
+    // How many bytes the session keeps under the digest.
+    fn kept_len(&self, id: u128, digest: &Digest) -> usize
+        ensures { result ≡ length (unwrap_or (kept_by self.now id digest.now) []) }
+    {
+        match self.kept(id, digest) {
+            Some(bytes) => bytes.len(),
+            None => 0,
+        }
+    }
+
+    // The bytes that the session keeps under the digest.
+    pub(crate) fn kept(&self, id: u128, digest: &Digest) -> Option<&Content>
+        ensures { option_copied result ≡ kept_by self.now id digest.now }
+    {
+        match self.staging.get(id) {
+            Some(staged) => staged.kept(digest),
+            None => None,
+        }
+    }
+
+    // Puts a file of a new content at the path.
+    fn put(&mut self, alloc: Global, path: &Path, bytes: Content) -> Result<(), AllocError>
+        ensures ok { OnOk result (self.new ≡ with_file self.old path.now bytes) }
+        ensures err { OnErr result (self.new ≡ self.old) }
+    {
+        let _ = path.names();
+        let stamp = self.ledger.next();
+        self.ledger.push(bytes)?;
+        match self.tree.set(alloc, path, Entry::File(stamp)) {
+            Ok(()) => Ok(()),
+            Err(_) => {
+                self.ledger.pop();
+                Err(AllocError)
+            }
+        }
+    }
+
+    // Sets an entry that has no content.
+    fn set(&mut self, alloc: Global, path: &Path, entry: Entry) -> Result<(), AllocError>
+        ensures ok { OnOk result (self.new ≡ with_tree self.old (set_at is_dir self.old.tree path.now entry)) }
+        ensures err { OnErr result (self.new ≡ self.old) }
+    {
+        let _ = path.names();
+        match self.tree.set(alloc, path, entry) {
+            Ok(()) => Ok(()),
+            Err(_) => Err(AllocError),
+        }
+    }
+}
