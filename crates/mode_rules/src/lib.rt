@@ -39,5 +39,3 @@ pub use standing::{Standing, compared, is_same};
 pub use table::settle;
 pub use verdict::{Verdict, first_case};
 
-#[cfg(test)]
-mod tests;

@@ -12,5 +12,3 @@ mod walk;
 
 pub use walk::reconcile;
 
-#[cfg(test)]
-mod tests;
