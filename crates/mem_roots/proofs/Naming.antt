@@ -11,7 +11,7 @@ number_of None = 0
 number_of (Some root) = root.0
 
 letter_small : (letter : ℕ) (root : RootId) → named_root (letter ∷ []) ≡ Some root → root.0 < 8
-unfolding number_of
+unfolding named_root number_of
 letter_small letter root h =
     elim (nat_le 65 letter) as (λ b. nat_le 65 letter ≡ b → ◌≡◌ {A = Option RootId} (cond (b && nat_le letter 72) (Some (record { 0 = letter - 65 })) None) (Some root) → root.0 < 8) [
       | true ↦ λ e. elim (nat_le letter 72) as (λ b. nat_le letter 72 ≡ b → ◌≡◌ {A = Option RootId} (cond b (Some (record { 0 = letter - 65 })) None) (Some root) → root.0 < 8) [
@@ -26,6 +26,7 @@ letter_small letter root h =
 
 -- a root that has a name is one of eight
 pub number_small : (name : List ℕ) (root : RootId) → named_root name ≡ Some root → root.0 < 8
+unfolding named_root
 number_small [] root h = absurd (cc)
 number_small (letter ∷ []) root h = letter_small letter root h
 number_small (letter ∷ other ∷ name) root h = absurd (cc)

@@ -9,7 +9,7 @@ use Rattle.roots_api.specs.declared.root_id.RootId.{RootId}
 use Rattle.mem_roots.specs.MemRoot.{MemState, new_mem}
 
 -- the root of a name: A (65) to H have the numbers 0 to 7
-abbrev pub named_root : List ℕ → Option RootId
+unfoldable pub named_root : List ℕ → Option RootId
 named_root [] = None
 named_root (letter ∷ []) = cond (nat_le 65 letter && nat_le letter 72) (Some (record { 0 = letter - 65 })) None
 named_root (letter ∷ other ∷ name) = None
@@ -38,7 +38,7 @@ none_some : (root : RootId) → ◌≡◌ {A = Option RootId} None (Some root) �
 none_some root h = false≢true (ap is_some h)
 
 letter_is : (letter : ℕ) (root : RootId) → named_root (letter ∷ []) ≡ Some root → letter ≡ root.0 + 65
-unfolding number_of
+unfolding named_root number_of
 letter_is letter root h =
     elim (nat_le 65 letter) as (λ b. nat_le 65 letter ≡ b → cond (b && nat_le letter 72) (Some (record { 0 = letter - 65 })) None ≡ Some root → letter ≡ root.0 + 65) [
       | true ↦ λ e. elim (nat_le letter 72) as (λ b. cond b (Some (record { 0 = letter - 65 })) None ≡ Some root → letter ≡ root.0 + 65) [
@@ -50,6 +50,7 @@ letter_is letter root h =
 
 -- the name of a root is its letter
 pub name_is : (name : List ℕ) (root : RootId) → named_root name ≡ Some root → name ≡ (root.0 + 65) ∷ []
+unfolding named_root
 name_is [] root h = absurd (none_some root h)
 name_is (letter ∷ []) root h = ap (λ (l : ℕ). l ∷ []) (letter_is letter root h)
 name_is (letter ∷ other ∷ name) root h = absurd (none_some root h)

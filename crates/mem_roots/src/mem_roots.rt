@@ -63,7 +63,7 @@ impl MemRoots {
         ensures others { self.new ≡ slice_set self.old root.0 (root_at self.new root) }
         ensures err { OnErr result (self.new ≡ self.old) }
     {
-        let at = &mut self.roots[root.0 as usize];
+        let at = &mut self.roots[place_of(root)];
         at.fail(alloc, calls)
     }
 
@@ -73,7 +73,7 @@ impl MemRoots {
         ensures value { result.now ≡ (root_at self.now root).log }
         ensures legal { IsLegal (root_at self.now root).log }
     {
-        self.roots[root.0 as usize].log()
+        self.roots[place_of(root)].log()
     }
 
     /// Does the session's operation on the root, and answers: as `Roots::call`, with what it makes of the root.
@@ -92,7 +92,7 @@ impl MemRoots {
         ensures counts { (root_at self.old root).full_answers ≤ (root_at self.new root).full_answers }
         ensures others { self.new ≡ slice_set self.old root.0 (root_at self.new root) }
     {
-        let at = &mut self.roots[root.0 as usize];
+        let at = &mut self.roots[place_of(root)];
         at.ask(alloc, who, op)
     }
 
@@ -105,7 +105,7 @@ impl MemRoots {
         ensures legal { IsLegal (root_at self.new root).log }
         ensures others { self.new ≡ slice_set self.old root.0 (root_at self.new root) }
     {
-        let at = &mut self.roots[root.0 as usize];
+        let at = &mut self.roots[place_of(root)];
         at.change(alloc, change)
     }
 
@@ -114,6 +114,16 @@ impl MemRoots {
         requires { (name : List ℕ) × (named_root name ≡ Some root) }
         ensures { IfOk result (λ tree. tree ≡ view_of (state_of (root_at self.now root).log)) }
     {
-        self.roots[root.0 as usize].view(alloc)
+        self.roots[place_of(root)].view(alloc)
     }
+}
+
+// Where the root with this number stands.
+#[tactic(auto, using(crate::proofs::Naming::number_small))]
+fn place_of(root: RootId) -> usize
+    requires { (name : List ℕ) × (named_root name ≡ Some root) }
+    ensures value { result ≡ root.0 }
+    ensures bound { result < 8 }
+{
+    root.0 as usize
 }

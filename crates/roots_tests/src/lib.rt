@@ -8,6 +8,8 @@
 #[cfg(test)]
 mod limits;
 #[cfg(test)]
+mod naming;
+#[cfg(test)]
 mod playing;
 #[cfg(test)]
 mod showing;

@@ -1,10 +1,7 @@
 //! Tables of edits and operations, each with its answer.
-use crate::playing::{played, session};
-use entry_tree::{Atom, Digest};
-use mem_roots::{MemRoot, MemRoots};
-use roots_api::{Answer, Content, Edit, Op, Roots};
+use crate::playing::played;
+use mem_roots::MemRoot;
 use std::test::Fail;
-use sync_path::Path;
 
 /// Edits against each kind of entry, with the parent there, absent, or no folder.
 const EDITS: &str = "\
@@ -152,32 +149,5 @@ fn operations_fail_by_their_number(rt: HostRuntime) -> Result<(), Fail> {
     let mut root = MemRoot::new(alloc)?;
     root.fail(alloc, &[3, 1, 3])?;
     assert_eq!(rt; played(alloc, &mut root, FAILING)?.as_str(), FAILING);
-    Ok(())
-}
-
-#[test]
-fn eight_roots_are_apart(rt: HostRuntime) -> Result<(), Fail> {
-    let alloc = rt.alloc();
-    let mut roots = MemRoots::eight(alloc)?;
-    for name in ["", "@", "I", "AB", "a"] {
-        assert!(rt; roots.find(name).is_none(), "{name}");
-    }
-    let first = roots.find("A").ok_or("no root")?;
-    let last = roots.find("H").ok_or("no root")?;
-    let path = Path::read(alloc, "f")?;
-    let bytes = Content::of(alloc, b"abc")?;
-    let put = Edit::Put { path, bytes };
-    roots.edit(alloc, last, &put)?;
-    roots.fail(alloc, last, &[0])?;
-    let answer = roots.call(alloc, first, &session(1), &Op::StageOpen)?;
-    assert!(rt; matches!(&answer, Answer::Opened));
-    assert_eq!(rt; roots.log(first).len(), 1);
-    let answer = roots.call(alloc, last, &session(1), &Op::StageOpen)?;
-    assert!(rt; matches!(&answer, Answer::Failed));
-    assert_eq!(rt; roots.log(last).len(), 2);
-    let view = roots.view(alloc, last)?;
-    let path = Path::read(alloc, "f")?;
-    assert_eq!(rt; view.get(&path), Some(&Atom::File(Digest::of(b"abc"))));
-    assert_eq!(rt; roots.view(alloc, first)?.len(), 1);
     Ok(())
 }

@@ -25,6 +25,7 @@ impl Roots for MemRoots {
 
     ghost apart = { names_apart };
 
+    #[tactic(auto, unfolding(crate::specs::Named::named_root))]
     fn find(&self, name: &str) -> Option<RootId> {
         match name.as_bytes() {
             [] => None,
@@ -53,6 +54,7 @@ impl Roots for MemRoots {
 }
 
 // The root of a letter.
+#[tactic(auto, unfolding(crate::specs::Named::named_root))]
 fn root_of(letter: u8) -> Option<RootId>
     ensures { result ≡ named_root (letter ∷ []) }
 {
