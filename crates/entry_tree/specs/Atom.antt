@@ -23,6 +23,14 @@ is_dir (Link text) = false
 is_dir Untracked = false
 is_dir (Problem kind) = false
 
+-- whether an atom is a link
+abbrev pub is_link : Atom → Bool
+is_link Dir = false
+is_link (File digest) = false
+is_link (Link text) = true
+is_link Untracked = false
+is_link (Problem kind) = false
+
 -- whether an atom is tracked: a folder, a file whose content was seen, or a link
 abbrev pub is_tracked : Atom → Bool
 is_tracked Dir = true

@@ -1,4 +1,4 @@
--- Which entries are folders.
+-- Which entries are folders, and which are links.
 use Rattle.std.specs.Prelude.{Bool, true, false}
 use Rattle.entry_tree.specs.declared.entry.Entry.{Entry}
 use Rattle.entry_tree.specs.declared.entry.Entry.TheVariants.{Dir, File, Link, Other}
@@ -9,3 +9,10 @@ is_dir Dir = true
 is_dir (File stamp) = false
 is_dir (Link text) = false
 is_dir Other = false
+
+-- whether an entry is a link
+abbrev pub is_link : Entry → Bool
+is_link Dir = false
+is_link (File stamp) = false
+is_link (Link text) = true
+is_link Other = false

@@ -1,6 +1,6 @@
 // What a session sees at a path.
-ghost use Rattle.std.specs.Prelude.{◌≡◌, IfOk};
-ghost use Rattle.entry_tree.specs.Atom.{is_dir, is_tracked, same_atom};
+ghost use Rattle.std.specs.Prelude.{◌≡◌, IsTrue, IfOk, OnErr};
+ghost use Rattle.entry_tree.specs.Atom.{is_dir, is_link, is_tracked, same_atom};
 
 use crate::digest::Digest;
 use crate::node::Node;
@@ -26,7 +26,8 @@ pub enum Atom {
 impl Atom {
     /// An equal atom. Only a link takes memory. Cost: the length of a link's text.
     pub fn copy(&self, alloc: Global) -> Result<Atom, AllocError>
-        ensures { IfOk result (λ atom. atom ≡ self.now) }
+        ensures value { IfOk result (λ atom. atom ≡ self.now) }
+        ensures memory { OnErr result (IsTrue (is_link self.now)) }
     {
         match self {
             Atom::Dir => Ok(Atom::Dir),
@@ -75,9 +76,11 @@ impl Atom {
 }
 
 impl Node for Atom {
-    ghost use Rattle.entry_tree.specs.Atom.{is_dir};
+    ghost use Rattle.entry_tree.specs.Atom.{is_dir, is_link};
 
     ghost is_folder = { is_dir };
+
+    ghost takes_memory = { is_link };
 
     fn is_dir(&self) -> bool {
         Atom::is_dir(self)

@@ -24,9 +24,11 @@ pub enum Entry {
 }
 
 impl Node for Entry {
-    ghost use Rattle.entry_tree.specs.Entry.{is_dir};
+    ghost use Rattle.entry_tree.specs.Entry.{is_dir, is_link};
 
     ghost is_folder = { is_dir };
+
+    ghost takes_memory = { is_link };
 
     fn is_dir(&self) -> bool {
         match self {
