@@ -1,4 +1,5 @@
 pub mod Answers
+pub mod Copying
 pub mod Edits
 pub mod Expected
 pub mod Laws

@@ -1,5 +1,6 @@
 // What a file or a link replaces.
-ghost use Rattle.std.specs.Prelude.{◌≡◌, cond, Some, None, IsTrue, IfOk};
+ghost use Rattle.std.specs.Prelude.{◌≡◌, cond, Some, None, IsTrue, IfOk, OnErr};
+ghost use Rattle.entry_tree.specs.Entry.{is_link};
 ghost use Rattle.roots_api.specs.Expected.{is_leaf};
 
 use entry_tree::{Entry, Node};
@@ -44,9 +45,10 @@ impl Leaf {
         &self.entry
     }
 
-    /// An equal leaf. Cost: the length of a link's text.
+    /// An equal leaf. Only a link takes memory. Cost: the length of a link's text.
     pub fn copy(&self, alloc: Global) -> Result<Leaf, AllocError>
-        ensures { IfOk result (λ leaf. leaf ≡ self.now) }
+        ensures value { IfOk result (λ leaf. leaf ≡ self.now) }
+        ensures memory { OnErr result (IsTrue (is_link self.now)) }
     {
         let entry = self.entry.copy(alloc)?;
         Ok(Leaf { entry })

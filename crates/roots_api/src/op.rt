@@ -1,5 +1,6 @@
 // What a session asks of a root.
-ghost use Rattle.std.specs.Prelude.{◌≡◌, IfOk};
+ghost use Rattle.std.specs.Prelude.{◌≡◌, IsTrue, IfOk, OnErr};
+ghost use Rattle.roots_api.specs.Copying.{has_path_or_bytes};
 
 use crate::content::Content;
 use crate::leaf::Leaf;
@@ -64,72 +65,94 @@ pub enum Op {
 }
 
 impl Op {
-    /// An equal operation. Cost: the lengths of paths, texts and bytes.
+    /// An equal operation. Only one with a path or bytes takes memory. Cost: the lengths of paths, texts and bytes.
     pub fn copy(&self, alloc: Global) -> Result<Op, AllocError>
-        ensures { IfOk result (λ op. op ≡ self.now) }
+        ensures value { IfOk result (λ op. op ≡ self.now) }
+        ensures memory { OnErr result (IsTrue (has_path_or_bytes self.now)) }
     {
         match self {
-            Op::List { path } => {
-                let path = path.copy(alloc)?;
-                Ok(Op::List { path })
-            }
+            Op::List { path } => Ok(Op::List {
+                path: path.copy(alloc)?,
+            }),
             Op::Fetch {
                 path,
                 stamp,
                 offset,
-            } => {
-                let path = path.copy(alloc)?;
-                Ok(Op::Fetch {
-                    path,
-                    stamp: *stamp,
-                    offset: *offset,
-                })
-            }
+            } => copy_fetch(alloc, path, *stamp, *offset),
             Op::StageClear => Ok(Op::StageClear),
             Op::StageOpen => Ok(Op::StageOpen),
-            Op::StageAppend { bytes } => {
-                let bytes = bytes.copy(alloc)?;
-                Ok(Op::StageAppend { bytes })
-            }
+            Op::StageAppend { bytes } => Ok(Op::StageAppend {
+                bytes: bytes.copy(alloc)?,
+            }),
             Op::StageKeep { digest } => Ok(Op::StageKeep { digest: *digest }),
             Op::Place {
                 path,
                 digest,
                 expected,
-            } => {
-                let path = path.copy(alloc)?;
-                let expected = copy_expected(alloc, expected)?;
-                Ok(Op::Place {
-                    path,
-                    digest: *digest,
-                    expected,
-                })
-            }
-            Op::MakeDir { path } => {
-                let path = path.copy(alloc)?;
-                Ok(Op::MakeDir { path })
-            }
+            } => copy_place(alloc, path, *digest, expected),
+            Op::MakeDir { path } => Ok(Op::MakeDir {
+                path: path.copy(alloc)?,
+            }),
             Op::MakeLink {
                 path,
                 text,
                 expected,
-            } => {
-                let path = path.copy(alloc)?;
-                let text = text.copy(alloc)?;
-                let expected = copy_expected(alloc, expected)?;
-                Ok(Op::MakeLink {
-                    path,
-                    text,
-                    expected,
-                })
-            }
-            Op::Remove { path, expected } => {
-                let path = path.copy(alloc)?;
-                let expected = expected.copy(alloc)?;
-                Ok(Op::Remove { path, expected })
-            }
+            } => copy_make_link(alloc, path, text, expected),
+            Op::Remove { path, expected } => Ok(Op::Remove {
+                path: path.copy(alloc)?,
+                expected: expected.copy(alloc)?,
+            }),
         }
     }
+}
+
+// The fetch of these, with a copy of the path.
+fn copy_fetch(alloc: Global, path: &Path, stamp: Stamp, offset: u64) -> Result<Op, AllocError>
+    ensures { IfOk result (λ op. op ≡ Op.Fetch path.now stamp offset) }
+{
+    let path = path.copy(alloc)?;
+    Ok(Op::Fetch {
+        path,
+        stamp,
+        offset,
+    })
+}
+
+// The placing of these, with copies of the path and of what is expected.
+fn copy_place(
+    alloc: Global,
+    path: &Path,
+    digest: Digest,
+    expected: &Option<Leaf>,
+) -> Result<Op, AllocError>
+    ensures { IfOk result (λ op. op ≡ Op.Place path.now digest expected.now) }
+{
+    let path = path.copy(alloc)?;
+    let expected = copy_expected(alloc, expected)?;
+    Ok(Op::Place {
+        path,
+        digest,
+        expected,
+    })
+}
+
+// The making of the link, with copies of these.
+fn copy_make_link(
+    alloc: Global,
+    path: &Path,
+    text: &Text,
+    expected: &Option<Leaf>,
+) -> Result<Op, AllocError>
+    ensures { IfOk result (λ op. op ≡ Op.MakeLink path.now text.now expected.now) }
+{
+    let path = path.copy(alloc)?;
+    let text = text.copy(alloc)?;
+    let expected = copy_expected(alloc, expected)?;
+    Ok(Op::MakeLink {
+        path,
+        text,
+        expected,
+    })
 }
 
 // An equal expectation.

@@ -1,5 +1,6 @@
 // What is taken away.
-ghost use Rattle.std.specs.Prelude.{◌≡◌, cond, Some, None, IsTrue, IfOk};
+ghost use Rattle.std.specs.Prelude.{◌≡◌, cond, Some, None, IsTrue, IfOk, OnErr};
+ghost use Rattle.entry_tree.specs.Entry.{is_link};
 ghost use Rattle.roots_api.specs.Expected.{is_tracked};
 
 use entry_tree::{Entry, Node};
@@ -44,9 +45,10 @@ impl Tracked {
         &self.entry
     }
 
-    /// An equal one. Cost: the length of a link's text.
+    /// An equal one. Only a link takes memory. Cost: the length of a link's text.
     pub fn copy(&self, alloc: Global) -> Result<Tracked, AllocError>
-        ensures { IfOk result (λ tracked. tracked ≡ self.now) }
+        ensures value { IfOk result (λ tracked. tracked ≡ self.now) }
+        ensures memory { OnErr result (IsTrue (is_link self.now)) }
     {
         let entry = self.entry.copy(alloc)?;
         Ok(Tracked { entry })
