@@ -1,5 +1,6 @@
 // What could not be done in a cycle.
-ghost use Rattle.std.specs.Prelude.{◌≡◌, IfOk};
+ghost use Rattle.std.specs.Prelude.{◌≡◌, IfOk, OnErr};
+ghost use Rattle.entry_tree.specs.Tree.{Names};
 
 use crate::copies::Copied;
 use entry_tree::{Digest, Side};
@@ -52,7 +53,8 @@ pub struct Problem {
 impl Cause {
     /// An equal cause. Only one that names a path takes memory.
     pub fn copy(&self, alloc: Global) -> Result<Cause, AllocError>
-        ensures { IfOk result (λ cause. cause ≡ self.now) }
+        ensures value { IfOk result (λ cause. cause ≡ self.now) }
+        ensures memory { OnErr result ((path : Names) × (self.now ≡ Cause.Skipped path)) }
     {
         match self {
             Cause::Changed => Ok(Cause::Changed),
