@@ -59,14 +59,8 @@ fn spanned(alloc: Global, offset: u64, answer: &Answer) -> Result<Answer<Span>, 
     ensures { IfOk result (λ logged. logged ≡ spanned offset answer.now) }
 {
     match answer {
-        Answer::Listed(rows) => {
-            let rows = rows.copy(alloc)?;
-            Ok(Answer::Listed(rows))
-        }
-        Answer::Held(found) => {
-            let found = copy_found(alloc, found.as_ref())?;
-            Ok(Answer::Held(found))
-        }
+        Answer::Listed(rows) => Ok(Answer::Listed(rows.copy(alloc)?)),
+        Answer::Held(found) => Ok(Answer::Held(copy_found(alloc, found.as_ref())?)),
         Answer::Piece { bytes, last } => Ok(Answer::Piece {
             bytes: Span {
                 offset,
@@ -74,10 +68,7 @@ fn spanned(alloc: Global, offset: u64, answer: &Answer) -> Result<Answer<Span>, 
             },
             last: *last,
         }),
-        Answer::Changed(found) => {
-            let found = copy_found(alloc, found.as_ref())?;
-            Ok(Answer::Changed(found))
-        }
+        Answer::Changed(found) => Ok(Answer::Changed(copy_found(alloc, found.as_ref())?)),
         Answer::TooLarge(bytes) => Ok(Answer::TooLarge(*bytes)),
         Answer::Cleared => Ok(Answer::Cleared),
         Answer::Opened => Ok(Answer::Opened),
@@ -88,14 +79,8 @@ fn spanned(alloc: Global, offset: u64, answer: &Answer) -> Result<Answer<Span>, 
             got: *got,
         }),
         Answer::Done(stamp) => Ok(Answer::Done(*stamp)),
-        Answer::NoParent(found) => {
-            let found = copy_found(alloc, found.as_ref())?;
-            Ok(Answer::NoParent(found))
-        }
-        Answer::Differs(found) => {
-            let found = copy_found(alloc, found.as_ref())?;
-            Ok(Answer::Differs(found))
-        }
+        Answer::NoParent(found) => Ok(Answer::NoParent(copy_found(alloc, found.as_ref())?)),
+        Answer::Differs(found) => Ok(Answer::Differs(copy_found(alloc, found.as_ref())?)),
         Answer::NoLink => Ok(Answer::NoLink),
         Answer::NotEmpty => Ok(Answer::NotEmpty),
         Answer::Full(room) => Ok(Answer::Full(*room)),
