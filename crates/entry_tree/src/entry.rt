@@ -1,6 +1,4 @@
 // What a root holds at a path.
-ghost use Rattle.std.specs.Prelude.{◌≡◌, IfOk};
-ghost use Rattle.entry_tree.specs.Entry.{is_dir};
 
 use crate::node::Node;
 use crate::text::Text;

@@ -3,7 +3,7 @@ ghost use Rattle.std.specs.Prelude.{◌≡◌, ◌↔◌, ◌<◌, ◌^◌, IsTr
 ghost use Rattle.std.specs.FinMap as map;
 ghost use Rattle.std.specs.Option.{option_copied};
 ghost use Rattle.entry_tree.specs.Tree.{IsClosed, set_at, without_under, at_parent, refusal, entries_under, entries_below, has_below, children_below};
-ghost use Rattle.entry_tree.specs.declared.tree_error.TreeError.TheVariants.{NoParent, NotDir, Memory};
+ghost use Rattle.entry_tree.specs.declared.tree_error.TreeError.TheVariants.{NoParent, NotDir};
 
 use crate::atom::Atom;
 use crate::child::{Child, children_in};

@@ -3,7 +3,7 @@ ghost use Rattle.std.specs.Prelude.{◌≡◌, Some, IfOk};
 ghost use Rattle.std.specs.List.{filter_map};
 ghost use Rattle.entry_tree.specs.Tree.{part, folders_above};
 ghost use Rattle.mode_rules.specs.Trees.{paths_of};
-ghost use Rattle.mode_rules.specs.Plans.{change_at, change_by, change_alpha, change_beta};
+ghost use Rattle.mode_rules.specs.Plans.{change_at, change_by};
 ghost use Rattle.mode_rules.specs.Sights.{trees_of};
 
 use crate::mode::Mode;

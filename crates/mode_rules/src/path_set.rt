@@ -1,5 +1,5 @@
 // Sets of paths.
-ghost use Rattle.std.specs.Prelude.{◌≡◌, ◌||◌, IfOk, OnOk, OnErr};
+ghost use Rattle.std.specs.Prelude.{◌≡◌, ◌||◌, IfOk, OnOk};
 ghost use Rattle.std.specs.FinMap as trees;
 ghost use Rattle.std.specs.FinSet as set;
 

@@ -1,10 +1,8 @@
 // What a root answers.
-ghost use Rattle.std.specs.Prelude.{◌≡◌, IfOk};
 
 use crate::content::Content;
 use crate::rows::Rows;
-use entry_tree::{Digest, Entry, Node, Stamp};
-use std::alloc::{AllocError, Global};
+use entry_tree::{Digest, Entry, Stamp};
 
 /// How full a root's log is.
 #[derive(Clone, Copy, Debug, PartialEq, Eq)]

@@ -1,5 +1,5 @@
 // What a root is.
-ghost use Rattle.std.specs.Prelude.{◌≡◌, ℕ, Bool, List, Option, Result, IsTrue, IsFalse, IfOk, IfSome, ◌≤◌};
+ghost use Rattle.std.specs.Prelude.{ℕ, Bool, List, Option, Result, IsTrue, IsFalse, IfOk, IfSome, ◌≤◌};
 ghost use Rattle.std.specs.declared.alloc.AllocError.{AllocError};
 ghost use Rattle.fault_count.specs.Rose.{Rose};
 ghost use Rattle.roots_api.specs.Answers.{IsAnswerTo, is_full, is_failed, is_no_link};
