@@ -1,5 +1,5 @@
 // The checks of operations on a tree.
-ghost use Rattle.std.specs.Prelude.{◌≡◌, ◌&&◌, cond, Some, None, IfOk};
+ghost use Rattle.std.specs.Prelude.{◌≡◌, ◌&&◌, cond, None, IfOk};
 ghost use Rattle.std.specs.FinMap as map;
 ghost use Rattle.std.specs.Option.{option_copied};
 ghost use Rattle.entry_tree.specs.Entry.{is_dir};

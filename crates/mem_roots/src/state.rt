@@ -1,10 +1,7 @@
 // The state of a root.
-ghost use Rattle.std.specs.Prelude.{◌≡◌, [], length, IfOk, OnOk, OnErr, is_some, unwrap_or};
+ghost use Rattle.std.specs.Prelude.{◌≡◌, [], length, IfOk, OnOk, OnErr, unwrap_or};
 ghost use Rattle.std.specs.Option.{option_copied};
-ghost use Rattle.std.specs.FinMap as map;
-ghost use Rattle.roots_api.specs.Answers.{is_done, is_dropped};
-ghost use Rattle.roots_api.specs.Edits.{edited};
-ghost use Rattle.roots_api.specs.States.{RootState, new_root, staged_by, kept_by, with_file, with_tree};
+ghost use Rattle.roots_api.specs.States.{RootState, new_root, kept_by, with_file, with_tree};
 ghost use Rattle.roots_api.specs.Steps.{after, done};
 ghost use Rattle.mem_roots.specs.MemRoot.{placed_by};
 ghost use Rattle.mem_roots.specs.Paths.{HoldsPaths};
@@ -15,7 +12,7 @@ use crate::kinds::{is_done, is_dropped};
 use crate::ledger::Ledger;
 use crate::staging::Staging;
 use entry_tree::{Digest, Entry, TreeOf};
-use roots_api::{Answer, Content, Edit, Op};
+use roots_api::{Answer, Content, Op};
 use std::alloc::{AllocError, Global};
 use std::marker::Model;
 use sync_path::Path;

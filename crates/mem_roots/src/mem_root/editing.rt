@@ -1,11 +1,10 @@
 // What a root in memory refuses of edits, and what it logs of them.
-ghost use Rattle.std.specs.Prelude.{◌≡◌, ◌+◌, None, IfOk, OnOk, OnErr, length, nat_le, nat_lt};
+ghost use Rattle.std.specs.Prelude.{◌≡◌, ◌+◌, None, IfOk, OnOk, OnErr, length, nat_lt};
 ghost use Rattle.std.specs.Option.{option_map};
 ghost use Rattle.roots_api.specs.Edits.{refused_at};
-ghost use Rattle.roots_api.specs.Logs.{IsLegal, bytes_held, log_size, state_of};
+ghost use Rattle.roots_api.specs.Logs.{IsLegal, bytes_held, state_of};
 ghost use Rattle.roots_api.specs.Told.{edit_error, edit_event, put_by, refused_by};
 ghost use Rattle.mem_roots.specs.MemRoot.{with_event};
-ghost use Rattle.mem_roots.specs.Sizes.{sizes_edited};
 
 use crate::events::{drop_last, edit_event};
 use crate::mem_root::MemRoot;

@@ -1,5 +1,5 @@
 // What a root answers on its state.
-ghost use Rattle.std.specs.Prelude.{◌≡◌, IfOk, Some, None, is_some, cond};
+ghost use Rattle.std.specs.Prelude.{◌≡◌, IfOk, Some, is_some, cond};
 ghost use Rattle.std.specs.Option.{option_copied};
 ghost use Rattle.roots_api.specs.States.{staged_by, content_of, kept_by, next_stamp};
 ghost use Rattle.roots_api.specs.Steps.{answer_of, keep_answer};
