@@ -1,5 +1,5 @@
 //! Numbers of a frame, high byte first, and where one goes wrong.
-ghost use Rattle.std.specs.Prelude.{◌≡◌, ◌≤◌, ◌<◌, ◌^◌};
+ghost use Rattle.std.specs.Prelude.{◌≤◌, ◌<◌, ◌^◌};
 ghost use Rattle.mux_frames.specs.Bytes.{bytes_of};
 ghost use Rattle.mux_frames.specs.Numbers.{ReadsNumber};
 

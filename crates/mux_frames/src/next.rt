@@ -1,5 +1,5 @@
 //! Frames one at a time, for a caller that may have to leave a frame where it is.
-ghost use Rattle.std.specs.Prelude.{◌≡◌, ℕ, ◌+◌, [], ◌++◌, length, None, Err, IfOk, OnOk, OnErr};
+ghost use Rattle.std.specs.Prelude.{◌≡◌, ℕ, ◌+◌, [], ◌++◌, length, Err, IfOk, OnOk, OnErr};
 ghost use Rattle.mux_frames.specs.Frames.{IsSpelling};
 ghost use Rattle.mux_frames.specs.Prefix.{Continues};
 ghost use Rattle.mux_frames.specs.Nexts.{Completes};

@@ -1,5 +1,5 @@
 //! Reading frames from a stream that comes in pieces.
-ghost use Rattle.std.specs.Prelude.{◌≡◌, ℕ, ◌+◌, ◌<◌, ◌≤◌, ◌++◌, length, drop, Some, None, IsOk, IfOk, OnOk, OnErr, IsErrOf};
+ghost use Rattle.std.specs.Prelude.{◌≡◌, ℕ, ◌<◌, length, Some, None, IsOk, IfOk, IsErrOf};
 
 use crate::batch::{Batch, frames_of};
 use crate::frame::MuxFrame;

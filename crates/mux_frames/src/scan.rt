@@ -1,5 +1,5 @@
 //! What stands at the front of the bytes: a frame, a part of one, or a byte with which none goes on.
-ghost use Rattle.std.specs.Prelude.{◌≡◌, ◌≤◌, ◌<◌, length, IfOk};
+ghost use Rattle.std.specs.Prelude.{◌≡◌, IfOk};
 ghost use Rattle.mux_frames.specs.declared.field.Field.TheVariants.{Whole};
 ghost use Rattle.mux_frames.specs.Bytes.{bytes_of};
 ghost use Rattle.mux_frames.specs.Kinds.{streams_of};
