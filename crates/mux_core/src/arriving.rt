@@ -1,5 +1,5 @@
 //! The frames that come.
-ghost use Rattle.std.specs.Prelude.{◌≡◌, ◌+◌, ◌≤◌, false, true, length, IfSome, OnOk, OnErr};
+ghost use Rattle.std.specs.Prelude.{◌≡◌, ◌+◌, ◌≤◌, false, true, IfSome, OnOk, OnErr};
 ghost use Rattle.std.specs.FinMap as map;
 ghost use Rattle.mux_core.specs.Arrivals.{was_opened, allows, allows_accept, allows_data, allows_window, allows_end, after_frame, frame_step, changes_state};
 ghost use Rattle.mux_core.specs.Ends.{SameLink};
@@ -7,7 +7,7 @@ ghost use Rattle.mux_core.specs.Answers.{Answers};
 
 use crate::end::MuxEnd;
 use crate::error::MuxError;
-use crate::stream::{StreamState, WINDOW};
+use crate::stream::WINDOW;
 use mux_frames::MuxFrame;
 use std::alloc::AllocError;
 

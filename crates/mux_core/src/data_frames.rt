@@ -1,6 +1,5 @@
 //! Bytes as Data frames.
 ghost use Rattle.std.specs.Prelude.{◌≡◌, ◌<◌, ◌^◌, length, IfOk};
-ghost use Rattle.mux_frames.specs.Fields.{IsStreamId};
 ghost use Rattle.mux_frames.specs.Streams.{stream_of};
 ghost use Rattle.mux_core.specs.Calls.{data_frames};
 

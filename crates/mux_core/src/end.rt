@@ -1,5 +1,5 @@
 //! An end of a connection.
-ghost use Rattle.std.specs.Prelude.{◌≡◌, ℕ, ◌+◌, ◌<◌, ◌≤◌, min, length, take, IsTrue, IfOk, OnOk, OnErr};
+ghost use Rattle.std.specs.Prelude.{◌≡◌, ◌<◌, ◌≤◌, min, length, take, IfOk, OnOk, OnErr};
 ghost use Rattle.std.specs.FinMap as map;
 ghost use Rattle.mux_core.specs.Ends.{fresh_end, tells, cut_off};
 ghost use Rattle.mux_core.specs.Calls.{credit_in, taken_out};
