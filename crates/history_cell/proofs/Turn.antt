@@ -19,11 +19,10 @@ pub found_once : {T : Type 0} (result : Option T) (x y : T) → result ≡ Some 
 found_once result x y is is' = cc (is, is')
 
 module _ {O A B : Type 0} where
-  -- the object is taken out of the slot, and another put back
-  pub slot_after : (m m' m'' : SeatOf O A B) (kept kept' : Kept O A B) → m.1 ≡ (0, Some kept) ∷ [] → m' ≡ (m.0, (0, None) ∷ rest m.1) → m'' ≡ (m'.0, (0, Some kept') ∷ rest m'.1)
-      → m'' ≡ (m.0, (0, Some kept') ∷ [])
-  slot_after m m' m'' kept kept' is is' is'' =
-      is'' ∙ (ap (λ (x : SeatOf O A B). (x.0, (0, Some kept') ∷ rest x.1)) is' ∙ ap (λ (l : List (ℕ × Option (Kept O A B))). (m.0, (0, Some kept') ∷ rest l)) is)
+  -- the object is taken out of the slot, and something put back
+  pub slot_after : (m m' m'' : SeatOf O A B) (kept : Kept O A B) (back : Option (Kept O A B)) → m.1 ≡ (0, Some kept) ∷ [] → m' ≡ (m.0, (0, None) ∷ rest m.1) → m'' ≡ (m'.0, (0, back) ∷ rest m'.1) → m'' ≡ (m.0, (0, back) ∷ [])
+  slot_after m m' m'' kept back is is' is'' =
+      is'' ∙ (ap (λ (x : SeatOf O A B). (x.0, (0, back) ∷ rest x.1)) is' ∙ ap (λ (l : List (ℕ × Option (Kept O A B))). (m.0, (0, back) ∷ rest l)) is)
 
   -- what was found in the slot is what lay there
   pub slot_found : (m : SeatOf O A B) (kept found : Kept O A B) (result : Option (Kept O A B)) → m.1 ≡ (0, Some kept) ∷ [] → m.1 ≡ (0, result) ∷ rest m.1 → result ≡ Some found → found ≡ kept

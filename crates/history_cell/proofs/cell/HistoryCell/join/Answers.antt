@@ -3,7 +3,7 @@ use Rattle.history_cell.proofs.Keeps.{joins, settles}
 use Rattle.history_cell.proofs.cell.HistoryCell.join.Goals as goal
 
 pub join_seat-requires : goal.join_seat-requires
-join_seat-requires g c = (search rules, search rules, search rules, search rules, joins _ _ _ _ _ _ c.args.pass.now.resting c.args.other.resting)
+join_seat-requires g c = (search rules, search rules, search rules, search rules, joins _ _ _ _ _ _ (search rules) (search rules))
 
 pub load-requires : goal.load-requires
 load-requires g c = (search rules, search rules, settles _ _ _ _ _)
