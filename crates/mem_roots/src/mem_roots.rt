@@ -1,5 +1,5 @@
 // Several roots in memory.
-ghost use Rattle.std.specs.Prelude.{◌≡◌, ◌==◌, ◌≤◌, ℕ, List, Some, IfOk, OnOk, OnErr, slice_set, replicate};
+ghost use Rattle.std.specs.Prelude.{◌≡◌, ◌==◌, ◌<◌, ◌≤◌, ℕ, List, Some, IfOk, OnOk, OnErr, slice_set, replicate};
 ghost use Rattle.std.specs.List.{list_any};
 ghost use Rattle.roots_api.specs.Answers.{IsAnswerTo};
 ghost use Rattle.roots_api.specs.Logs.{IsLegal, state_of};
