@@ -25,6 +25,9 @@ const TICKETS: usize = 0;
 
 const SERVING: usize = 1;
 
+// So often a pass looks for its turn before it yields the processor between two looks.
+const LOOKS: u32 = 200;
+
 /// An object that threads share by reference. All its calls have one legal history.
 #[derive(Drop)]
 pub struct HistoryCell<O: Object> {
@@ -108,11 +111,16 @@ impl<O: Object> HistoryCell<O> {
         ensures turn { Turns seat.old.me ticket seat.new.me }
     {
         let shared = &self.table.shared;
+        let mut looks = 0;
         for _ in rt.forever() {
             if shared.load::<LookAtServing>(seat, SERVING) == ticket {
                 return;
             }
-            yield_now();
+            if looks < LOOKS {
+                looks += 1;
+            } else {
+                yield_now();
+            }
         }
     }
 
