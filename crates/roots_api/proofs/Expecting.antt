@@ -14,7 +14,7 @@ use Rattle.entry_tree.proofs.Paths.{name_is}
 use Rattle.roots_api.specs.Answers.{is_done, is_dropped, in_row}
 use Rattle.roots_api.specs.Laws.{MayPlace, MayMake, MayRemove}
 use Rattle.roots_api.specs.States.{RootState, staged_by, kept_by, content_of, next_stamp, same_entry, is_expected, missing_parent}
-use Rattle.roots_api.specs.Steps.{answer_of, after, in_folder, where_expected, keep_answer}
+use Rattle.roots_api.specs.Steps.{answer_of, is_changing, after, in_folder, where_expected, keep_answer}
 use Rattle.roots_api.specs.declared.answer.Answer.{Answer}
 use Rattle.roots_api.specs.declared.answer.Answer.TheVariants.{Done, Differs, NoParent, NotStaged, NotEmpty}
 use Rattle.roots_api.specs.declared.limits.TheConstants.{MAX_FETCH}
@@ -96,6 +96,31 @@ undone s id op answer h =
       | true ↦ λ e. absurd (cc)
       | false ↦ λ e. elim (is_dropped answer) as (λ d. P (cond d staged s)) [ true ↦ (refl, refl) | false ↦ (refl, refl) ]
     ] h
+
+-- an operation that leaves tree and ledger where it is done leaves them whatever it answers
+leaves : (s : RootState) (id : ℕ) (op : Op) (answer : Answer (List ℕ)) → (Rattle.roots_api.specs.Steps.done s id op).tree ≡ s.tree → (Rattle.roots_api.specs.Steps.done s id op).ledger ≡ s.ledger
+    → ((after s id op answer).tree ≡ s.tree) × ((after s id op answer).ledger ≡ s.ledger)
+leaves s id op answer tree ledger =
+    let staged = Rattle.roots_api.specs.States.with_staged s id (Rattle.roots_api.specs.Steps.drop_file (staged_by s id)) in
+    let P : RootState → Type 0 = λ n. (n.tree ≡ s.tree) × (n.ledger ≡ s.ledger) in
+    elim (is_done answer) as (λ b. P (cond b (Rattle.roots_api.specs.Steps.done s id op) (cond (is_dropped answer) staged s))) [
+      | true ↦ (tree, ledger)
+      | false ↦ elim (is_dropped answer) as (λ d. P (cond d staged s)) [ true ↦ (refl, refl) | false ↦ (refl, refl) ]
+    ]
+
+-- so do all but the four that change a tree
+pub others_leave : (s : RootState) (id : ℕ) (op : Op) (answer : Answer (List ℕ)) → is_changing op ≡ false
+    → ((after s id op answer).tree ≡ s.tree) × ((after s id op answer).ledger ≡ s.ledger)
+others_leave s id (OpList path) answer h = leaves s id (OpList path) answer refl refl
+others_leave s id (Fetch path stamp offset) answer h = leaves s id (Fetch path stamp offset) answer refl refl
+others_leave s id StageClear answer h = leaves s id StageClear answer refl refl
+others_leave s id StageOpen answer h = leaves s id StageOpen answer refl refl
+others_leave s id (StageAppend bytes) answer h = leaves s id (StageAppend bytes) answer refl refl
+others_leave s id (StageKeep digest) answer h = leaves s id (StageKeep digest) answer refl refl
+others_leave s id (Place path digest expected) answer h = absurd (cc)
+others_leave s id (MakeDir path) answer h = absurd (cc)
+others_leave s id (MakeLink path text expected) answer h = absurd (cc)
+others_leave s id (Remove path expected) answer h = absurd (cc)
 
 in_folder_row : (op : Op) (tree : ByPath Entry) (path : Names) (answer : Answer (List ℕ))
     → ((found : Option Entry) → let a : Answer (List ℕ) = NoParent found in in_row op a ≡ true) → in_row op answer ≡ true → in_row op (in_folder tree path answer) ≡ true

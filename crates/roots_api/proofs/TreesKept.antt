@@ -57,7 +57,7 @@ without_shut : (tree : ByPath Entry) (path : Names) → IsShut tree → IsShut (
 without_shut tree path closed = closed_retain is_dir tree closed (λ q. not (is_under q path)) (λ q n h. not_under_up path q n h)
 
 -- what a log keeps of an answer tells as much
-done_spanned : (offset : ℕ) (answer : Answer (List ℕ)) → is_done (spanned offset answer) ≡ is_done answer
+pub done_spanned : (offset : ℕ) (answer : Answer (List ℕ)) → is_done (spanned offset answer) ≡ is_done answer
 done_spanned offset (Listed rows) = refl
 done_spanned offset (Held found) = refl
 done_spanned offset (Piece bytes last) = refl

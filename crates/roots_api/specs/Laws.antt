@@ -11,7 +11,7 @@ use Rattle.roots_api.specs.Answers.{is_done, in_row}
 use Rattle.roots_api.specs.Edits.{edited}
 use Rattle.roots_api.specs.Logs.{IsLegal, state_of}
 use Rattle.roots_api.specs.States.{RootState, nothing_staged, staged_by, kept_by, next_stamp, missing_parent}
-use Rattle.roots_api.specs.Steps.{answer_of, done, after}
+use Rattle.roots_api.specs.Steps.{answer_of, done, is_changing, after}
 use Rattle.roots_api.specs.declared.answer.Answer.{Answer}
 use Rattle.roots_api.specs.declared.answer.Answer.TheVariants.{Done, Failed}
 use Rattle.roots_api.specs.declared.edit.Edit.{Edit}
@@ -23,6 +23,12 @@ use Rattle.roots_api.specs.declared.op.Op.TheVariants.{StageClear, Place, MakeDi
 abbrev pub UndoneLeavesTree : Type 0
 UndoneLeavesTree =
     (s : RootState) (id : ℕ) (op : Op) (answer : Answer (List ℕ)) → is_done answer ≡ false
+    → ((after s id op answer).tree ≡ s.tree) × ((after s id op answer).ledger ≡ s.ledger)
+
+-- one that isn't among the four that change a tree leaves them, whatever it answers
+abbrev pub OthersLeaveTree : Type 0
+OthersLeaveTree =
+    (s : RootState) (id : ℕ) (op : Op) (answer : Answer (List ℕ)) → is_changing op ≡ false
     → ((after s id op answer).tree ≡ s.tree) × ((after s id op answer).ledger ≡ s.ledger)
 
 -- one that failed leaves all

@@ -1,5 +1,5 @@
 -- What a root answers to an operation of a session, and what it makes of it.
-use Rattle.std.specs.Prelude.{ℕ, ◌+◌, ◌&&◌, cond, List, [], ◌++◌, length, take, drop, nat_lt, nat_le, bytes_eq, Option, Some, None, is_some, unwrap_or}
+use Rattle.std.specs.Prelude.{ℕ, Bool, true, false, ◌+◌, ◌&&◌, cond, List, [], ◌++◌, length, take, drop, nat_lt, nat_le, bytes_eq, Option, Some, None, is_some, unwrap_or}
 use Rattle.std.specs.FinMap as map
 use Rattle.std.specs.Option.{option_map, option_map_or}
 use Rattle.sha2.specs.Sha256.{sha256}
@@ -83,6 +83,14 @@ done s id (Place path digest expected) = with_file s path (unwrap_or (kept_by s 
 done s id (MakeDir path) = with_tree s (set_at is_dir s.tree path Dir)
 done s id (MakeLink path text expected) = with_tree s (set_at is_dir s.tree path (Link text))
 done s id (Remove path expected) = with_tree s (without_under s.tree path)
+
+-- whether an operation is one of the four that change a tree
+abbrev pub is_changing : Op → Bool
+is_changing (Place path digest expected) = true
+is_changing (MakeDir path) = true
+is_changing (MakeLink path text expected) = true
+is_changing (Remove path expected) = true
+is_changing op = false
 
 -- What an operation makes of a state, by its answer: one that is done changes it, a digest that differs drops the begun
 -- file, and any other answer, Failed among them, changes nothing.

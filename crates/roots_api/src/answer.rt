@@ -62,3 +62,64 @@ pub enum Answer<B = Content> {
     /// The root failed; nothing is done.
     Failed,
 }
+
+impl Answer {
+    /// An equal answer. Cost: the rows, the bytes of a piece, or the length of a link's text.
+    pub fn copy(&self, alloc: Global) -> Result<Answer, AllocError>
+        ensures { IfOk result (λ answer. answer ≡ self.now) }
+    {
+        match self {
+            Answer::Listed(rows) => {
+                let rows = rows.copy(alloc)?;
+                Ok(Answer::Listed(rows))
+            }
+            Answer::Held(found) => {
+                let found = copy_found(alloc, found)?;
+                Ok(Answer::Held(found))
+            }
+            Answer::Piece { bytes, last } => {
+                let bytes = bytes.copy(alloc)?;
+                Ok(Answer::Piece { bytes, last: *last })
+            }
+            Answer::Changed(found) => {
+                let found = copy_found(alloc, found)?;
+                Ok(Answer::Changed(found))
+            }
+            Answer::TooLarge(bytes) => Ok(Answer::TooLarge(*bytes)),
+            Answer::Cleared => Ok(Answer::Cleared),
+            Answer::Opened => Ok(Answer::Opened),
+            Answer::Kept => Ok(Answer::Kept),
+            Answer::NotStaged => Ok(Answer::NotStaged),
+            Answer::DigestDiffers { wanted, got } => Ok(Answer::DigestDiffers {
+                wanted: *wanted,
+                got: *got,
+            }),
+            Answer::Done(stamp) => Ok(Answer::Done(*stamp)),
+            Answer::NoParent(found) => {
+                let found = copy_found(alloc, found)?;
+                Ok(Answer::NoParent(found))
+            }
+            Answer::Differs(found) => {
+                let found = copy_found(alloc, found)?;
+                Ok(Answer::Differs(found))
+            }
+            Answer::NoLink => Ok(Answer::NoLink),
+            Answer::NotEmpty => Ok(Answer::NotEmpty),
+            Answer::Full(room) => Ok(Answer::Full(*room)),
+            Answer::Failed => Ok(Answer::Failed),
+        }
+    }
+}
+
+// What was found, once more.
+fn copy_found(alloc: Global, found: &Option<Entry>) -> Result<Option<Entry>, AllocError>
+    ensures { IfOk result (λ copy. copy ≡ found.now) }
+{
+    match found {
+        None => Ok(None),
+        Some(entry) => match entry.copy(alloc) {
+            Ok(entry) => Ok(Some(entry)),
+            Err(error) => Err(error),
+        },
+    }
+}

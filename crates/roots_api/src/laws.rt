@@ -1,9 +1,11 @@
 //! What every state, every step and every log keeps to. Each law is the contract of a function that does nothing.
-ghost use Rattle.roots_api.specs.Laws.{UndoneLeavesTree, FailedLeavesAll, PlacesWhereExpected, MakesDirWhereNothing, MakesLinkWhereExpected, RemovesWhereExpected, AnswersInRow, StagesApart, EditsLeaveStaging, ClearsAll, LedgerGrows, StampsName, TreesAreClosed, KeepsByDigest};
+ghost use Rattle.roots_api.specs.Laws.{UndoneLeavesTree, OthersLeaveTree, FailedLeavesAll, PlacesWhereExpected, MakesDirWhereNothing, MakesLinkWhereExpected, RemovesWhereExpected, AnswersInRow, StagesApart, EditsLeaveStaging, ClearsAll, LedgerGrows, StampsName, TreesAreClosed, KeepsByDigest};
 
-/// An operation that isn't done leaves tree and ledger, and one that failed leaves all.
+/// An operation that isn't done leaves tree and ledger, and so does each but the four that change a tree; one that failed
+/// leaves all.
 pub fn undone_leaves_the_tree()
     ensures undone { UndoneLeavesTree }
+    ensures others { OthersLeaveTree }
     ensures failed { FailedLeavesAll }
 {}
 

@@ -1,4 +1,4 @@
-use crate::{Content, Edit, Leaf, Op, Rows, Stamps, Tracked};
+use crate::{Answer, Content, Edit, Leaf, Op, Room, Rows, Stamps, Tracked};
 use entry_tree::{Digest, Entry, Stamp, Text};
 use std::alloc::Global;
 use std::test::Fail;
@@ -148,6 +148,51 @@ fn copies_of_edits(rt: HostRuntime) -> Result<(), Fail> {
         let edit = edit(alloc, kind, Path::read(alloc, "d/f")?)?;
         let copy = edit.copy(alloc)?;
         let text = format!(in alloc; "{edit:?}")?;
+        let again = format!(in alloc; "{copy:?}")?;
+        assert_eq!(rt; text.as_str(), again.as_str());
+    }
+    Ok(())
+}
+
+fn answer(alloc: Global, kind: &str) -> Result<Answer, Fail> {
+    match kind {
+        "listed" => {
+            let mut rows = Rows::new(alloc);
+            rows.push(Name::read(alloc, "a")?, entry(alloc, 'l')?)?;
+            Ok(Answer::Listed(rows))
+        }
+        "held" => Ok(Answer::Held(Some(entry(alloc, 'l')?))),
+        "piece" => Ok(Answer::Piece {
+            bytes: Content::of(alloc, b"abc")?,
+            last: false,
+        }),
+        "kept" => Ok(Answer::Kept),
+        "digest-differs" => Ok(Answer::DigestDiffers {
+            wanted: Digest::of(b"abc"),
+            got: Digest::of(b"ab"),
+        }),
+        "done" => Ok(Answer::Done(Some(Stamp(3)))),
+        "no-parent" => Ok(Answer::NoParent(None)),
+        _ => Ok(Answer::Full(Room { log: 1, bytes: 2 })),
+    }
+}
+
+#[test]
+fn copies_of_answers(rt: HostRuntime) -> Result<(), Fail> {
+    let alloc = rt.alloc();
+    for kind in [
+        "listed",
+        "held",
+        "piece",
+        "kept",
+        "digest-differs",
+        "done",
+        "no-parent",
+        "full",
+    ] {
+        let answer = answer(alloc, kind)?;
+        let copy = answer.copy(alloc)?;
+        let text = format!(in alloc; "{answer:?}")?;
         let again = format!(in alloc; "{copy:?}")?;
         assert_eq!(rt; text.as_str(), again.as_str());
     }
