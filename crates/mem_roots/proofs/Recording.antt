@@ -24,32 +24,13 @@ use Rattle.roots_api.specs.declared.op.Op.TheVariants.{List as OpList, Fetch, St
 use Rattle.roots_api.specs.declared.who.Who.{Who}
 use Rattle.roots_api.specs.declared.who.Who.TheVariants.{Editor, Session}
 use Rattle.roots_api.proofs.Folds.{after_events-append, legal_push}
+use Rattle.roots_api.proofs.TreesKept.{done_spanned}
 use Rattle.mem_roots.specs.MemRoot.{MemState, id_of, has_no_room, is_to_fail, placed_by, places_too_much, decided, mem_answer, room_of}
 use Rattle.mem_roots.specs.Sizes.{IsOfLog, sizes_of, sizes_with, sizes_edited}
 use Rattle.mem_roots.specs.declared.sizes.Sizes.{Sizes}
 
--- what a log keeps of an answer tells as much
+-- what a log keeps of an answer tells as much: beside whether it is done (`done_spanned`), what else is asked of it
 module _ (offset : ℕ) where
-  done_spanned : (answer : Answer (List ℕ)) → is_done (spanned offset answer) ≡ is_done answer
-  done_spanned (Listed rows) = refl
-  done_spanned (Held found) = refl
-  done_spanned (Piece bytes last) = refl
-  done_spanned (Changed found) = refl
-  done_spanned (TooLarge bytes) = refl
-  done_spanned Cleared = refl
-  done_spanned Opened = refl
-  done_spanned Kept = refl
-  done_spanned NotStaged = refl
-  done_spanned (DigestDiffers wanted got) = refl
-  done_spanned (Done stamp) = refl
-  done_spanned (NoParent found) = refl
-  done_spanned (Differs found) = refl
-  done_spanned NoLink = refl
-  done_spanned NotEmpty = refl
-  done_spanned (Full room) = refl
-  done_spanned Failed = refl
-
-  -- the other tests
   pub record Alike (answer : Answer (List ℕ)) : Type 0 where
     pub dropped : is_dropped (spanned offset answer) ≡ is_dropped answer
     pub failed : is_failed (spanned offset answer) ≡ is_failed answer

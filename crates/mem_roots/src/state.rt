@@ -6,7 +6,7 @@ ghost use Rattle.roots_api.specs.Steps.{after, done};
 ghost use Rattle.mem_roots.specs.MemRoot.{placed_by};
 ghost use Rattle.mem_roots.specs.Paths.{HoldsPaths};
 ghost use Rattle.entry_tree.specs.Entry.{is_dir};
-ghost use Rattle.entry_tree.specs.Tree.{set_at};
+ghost use Rattle.entry_tree.specs.Tree.{set_at, without_under};
 
 use crate::kinds::{is_done, is_dropped};
 use crate::ledger::Ledger;
@@ -111,7 +111,7 @@ impl State {
                 Err(error) => Err(error),
             },
             Op::Remove { path, .. } => {
-                self.tree.remove_under(path);
+                self.take_away(path);
                 Ok(())
             }
         }
@@ -188,6 +188,13 @@ impl State {
                 Err(AllocError)
             }
         }
+    }
+
+    // Takes away all at and below the path. It takes no memory.
+    fn take_away(&mut self, path: &Path)
+        ensures { self.new ≡ with_tree self.old (without_under self.old.tree path.now) }
+    {
+        self.tree.remove_under(path);
     }
 
     // Sets an entry that has no content.

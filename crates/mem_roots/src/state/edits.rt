@@ -50,7 +50,7 @@ impl State {
             Edit::Other { path } => self.set(alloc, path, Entry::Other),
             Edit::Dir { path } => self.set(alloc, path, Entry::Dir),
             Edit::Del { path } => {
-                self.tree.remove_under(path);
+                self.take_away(path);
                 Ok(())
             }
         }
