@@ -33,6 +33,22 @@ E fill b 268435450 => done
 1 place d x - => full 11 268435456
 ";
 
+/// A piece has 65,536 bytes at most, and is the last where it reaches the end. A file of 16,777,216 bytes is fetched, and a
+/// longer one isn't.
+const PIECES: &str = "\
+E fill a 65536 => done
+1 fetch a 0 0 => piece of 65536 last
+E fill a 65537 => done
+1 fetch a 1 0 => piece of 65536 more
+1 fetch a 1 1 => piece of 65536 last
+1 fetch a 1 65536 => piece of 1 last
+E fill b 16777216 => done
+1 fetch b 2 16711679 => piece of 65536 more
+1 fetch b 2 16711680 => piece of 65536 last
+E fill b 16777217 => done
+1 fetch b 3 16711680 => too-large 16777217
+";
+
 /// Two folders in an empty root.
 const FOLDERS: &str = "\
 E dir a => done
@@ -62,6 +78,14 @@ fn cleared_bytes_are_held(rt: HostRuntime) -> Result<(), Fail> {
     let alloc = rt.alloc();
     let mut root = MemRoot::new(alloc)?;
     assert_eq!(rt; played(alloc, &mut root, CLEARED)?.as_str(), CLEARED);
+    Ok(())
+}
+
+#[test]
+fn long_files_are_fetched_in_pieces(rt: HostRuntime) -> Result<(), Fail> {
+    let alloc = rt.alloc();
+    let mut root = MemRoot::new(alloc)?;
+    assert_eq!(rt; played(alloc, &mut root, PIECES)?.as_str(), PIECES);
     Ok(())
 }
 

@@ -43,9 +43,13 @@ fn found_text(alloc: Global, word: &str, found: &Option<Entry>) -> Result<String
     Ok(format!(in alloc; "{} {}", word, found.as_str())?)
 }
 
+// Its text, or of zero bytes their number.
 fn piece_text(alloc: Global, bytes: &[u8], last: bool) -> Result<String, Fail> {
-    let text = std::str::from_utf8(bytes)?;
     let end = if last { "last" } else { "more" };
+    if bytes.first() == Some(&0) {
+        return Ok(format!(in alloc; "piece of {} {}", bytes.len(), end)?);
+    }
+    let text = std::str::from_utf8(bytes)?;
     Ok(format!(in alloc; "piece {} {}", text, end)?)
 }
 
