@@ -38,4 +38,3 @@ pub use sight::Sight;
 pub use standing::{Standing, compared, is_same};
 pub use table::settle;
 pub use verdict::{Verdict, first_case};
-

@@ -11,4 +11,3 @@ mod runs;
 mod walk;
 
 pub use walk::reconcile;
-

@@ -1,8 +1,10 @@
 // What a root answers.
+ghost use Rattle.std.specs.Prelude.{◌≡◌, IfOk};
 
 use crate::content::Content;
 use crate::rows::Rows;
-use entry_tree::{Digest, Entry, Stamp};
+use entry_tree::{Digest, Entry, Node, Stamp};
+use std::alloc::{AllocError, Global};
 
 /// How full a root's log is.
 #[derive(Clone, Copy, Debug, PartialEq, Eq)]
@@ -69,22 +71,13 @@ impl Answer {
         ensures { IfOk result (λ answer. answer ≡ self.now) }
     {
         match self {
-            Answer::Listed(rows) => {
-                let rows = rows.copy(alloc)?;
-                Ok(Answer::Listed(rows))
-            }
-            Answer::Held(found) => {
-                let found = copy_found(alloc, found)?;
-                Ok(Answer::Held(found))
-            }
-            Answer::Piece { bytes, last } => {
-                let bytes = bytes.copy(alloc)?;
-                Ok(Answer::Piece { bytes, last: *last })
-            }
-            Answer::Changed(found) => {
-                let found = copy_found(alloc, found)?;
-                Ok(Answer::Changed(found))
-            }
+            Answer::Listed(rows) => Ok(Answer::Listed(rows.copy(alloc)?)),
+            Answer::Held(found) => Ok(Answer::Held(copy_found(alloc, found)?)),
+            Answer::Piece { bytes, last } => Ok(Answer::Piece {
+                bytes: bytes.copy(alloc)?,
+                last: *last,
+            }),
+            Answer::Changed(found) => Ok(Answer::Changed(copy_found(alloc, found)?)),
             Answer::TooLarge(bytes) => Ok(Answer::TooLarge(*bytes)),
             Answer::Cleared => Ok(Answer::Cleared),
             Answer::Opened => Ok(Answer::Opened),
@@ -95,14 +88,8 @@ impl Answer {
                 got: *got,
             }),
             Answer::Done(stamp) => Ok(Answer::Done(*stamp)),
-            Answer::NoParent(found) => {
-                let found = copy_found(alloc, found)?;
-                Ok(Answer::NoParent(found))
-            }
-            Answer::Differs(found) => {
-                let found = copy_found(alloc, found)?;
-                Ok(Answer::Differs(found))
-            }
+            Answer::NoParent(found) => Ok(Answer::NoParent(copy_found(alloc, found)?)),
+            Answer::Differs(found) => Ok(Answer::Differs(copy_found(alloc, found)?)),
             Answer::NoLink => Ok(Answer::NoLink),
             Answer::NotEmpty => Ok(Answer::NotEmpty),
             Answer::Full(room) => Ok(Answer::Full(*room)),
