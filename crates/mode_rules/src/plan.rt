@@ -13,9 +13,9 @@ pub struct Change {
     pub side: Side,
     /// Where it is changed.
     pub at: Path,
-    /// What the side holds at and below the path.
+    /// What the side holds at and below the path, what the session leaves alone and what wasn't seen too, and the folders above it.
     pub old: Tree,
-    /// What it is to hold there.
+    /// What it is to hold there: what the other side holds, or nothing; and the folders above the path.
     pub new: Tree,
 }
 
