@@ -6,7 +6,7 @@ use Rattle.std.proofs.lemmas.List.{take_at}
 use Rattle.std.proofs.lemmas.List.Sums.{sum_by-append, sum_by_push, sum_by-le-sum_by}
 use Rattle.std.specs.Option.{option_map}
 use Rattle.roots_api.specs.Answers.{is_done, is_dropped, is_full, is_failed}
-use Rattle.roots_api.specs.Logs.{state_of, log_size, bytes_held, asked_in, failed_in, rows_in, event_size, appended_by, staged_bytes, is_asked, logged, spanned, offset_of}
+use Rattle.roots_api.specs.Logs.{state_of, log_size, bytes_held, asked_in, rows_in, event_size, appended_by, staged_bytes, is_asked, logged, spanned, offset_of}
 use Rattle.roots_api.specs.States.{RootState, new_root, kept_by, staged_by, with_staged}
 use Rattle.roots_api.specs.Steps.{answer_of, after, done, drop_file}
 use Rattle.roots_api.specs.Edits.{edited, refused_at, first_of}
@@ -178,15 +178,10 @@ module _ (log : List Event) (id run cycle : ℕ) (op : Op) (answer : Answer (Lis
   asked_longer : asked_in (log ++ call_event (Session id run cycle) op answer ∷ []) ≡ asked_in log + 1
   asked_longer = count-push is_asked log (call_event (Session id run cycle) op answer)
 
-  failed_longer : failed_in (log ++ call_event (Session id run cycle) op answer ∷ []) ≡ failed_in log + cond (is_failed answer) 1 0
-  failed_longer =
-      count-push (λ (e : Event). is_failed e.answer) log (call_event (Session id run cycle) op answer)
-      ∙ ap (λ b. failed_in log + cond b 1 0) (alike (offset_of op) answer).failed
-
 -- a log with one operation more, its state and its sizes
 pub recorded : (log : List Event) (state : RootState) (sizes : Sizes) (who : Who) (op : Op) (answer : Answer (List ℕ)) → IsSession who → IsOfLog log state sizes → Fits log (id_of who) op answer
     → IsOfLog (log ++ call_event who op answer ∷ []) (after state (id_of who) op answer)
-    (sizes_with sizes (rows_in answer) (length (appended_by op)) (length (placed_by state (id_of who) op answer)) (cond (is_failed answer) 1 0))
+    (sizes_with sizes (rows_in answer) (length (appended_by op)) (length (placed_by state (id_of who) op answer)))
 recorded log state sizes Editor op answer session old fit = absurd session
 recorded log state sizes (Session id run cycle) op answer session old fit =
     let s = state_of log in
@@ -195,19 +190,16 @@ recorded log state sizes (Session id run cycle) op answer session old fit =
     let size = size_longer log id run cycle op answer in
     let bytes = bytes_longer log id run cycle op answer in
     let asked = asked_longer log id run cycle op answer in
-    let failed = failed_longer log id run cycle op answer in
     let at_size : sizes.log ≡ log_size log = ap (λ (z : Sizes). z.log) before in
     let at_bytes : sizes.bytes ≡ bytes_held log = ap (λ (z : Sizes). z.bytes) before in
     let at_asked : sizes.asked ≡ asked_in log = ap (λ (z : Sizes). z.asked) before in
-    let at_failed : sizes.failed ≡ failed_in log = ap (λ (z : Sizes). z.failed) before in
     let same_placed : length (placed_by state id op answer) ≡ length (placed_by s id op answer) = ap (λ (t : RootState). length (placed_by t id op answer)) state_is in
     let log_is : sizes.log + (1 + rows_in answer) ≡ log_size (log ++ call_event (Session id run cycle) op answer ∷ []) = omega arith in
     let bytes_is : sizes.bytes + (length (appended_by op) + length (placed_by state id op answer)) ≡ bytes_held (log ++ call_event (Session id run cycle) op answer ∷ []) = omega arith in
     let asked_is : sizes.asked + 1 ≡ asked_in (log ++ call_event (Session id run cycle) op answer ∷ []) = omega arith in
-    let failed_is : sizes.failed + cond (is_failed answer) 1 0 ≡ failed_in (log ++ call_event (Session id run cycle) op answer ∷ []) = omega arith in
     record {
       state_is = ap (λ (t : RootState). after t id op answer) state_is ∙ sym (state_longer log id run cycle op answer);
-      sizes_are = λ i. record { log = log_is i; bytes = bytes_is i; asked = asked_is i; failed = failed_is i };
+      sizes_are = λ i. record { log = log_is i; bytes = bytes_is i; asked = asked_is i };
       legal = legal_push new_root log (call_event (Session id run cycle) op answer) old.legal
           (elim fit.row [ inl e ↦ inl (ap (logged op) e) | inr e ↦ inr (ap (logged op) e) ]);
       log_fits = let f = fit.size in omega arith;
@@ -263,18 +255,15 @@ recorded_edit log state sizes edit old fit =
     let ledger = ap (λ (s : RootState). sum_by length s.ledger) longer ∙ ledger_edited (state_of log) edit in
     let staged = sum_by-append (λ (e : Event). staged_bytes e.deed) log (edit_event edit ∷ []) in
     let asked = count-push is_asked log (edit_event edit) in
-    let failed = count-push (λ (e : Event). is_failed e.answer) log (edit_event edit) in
     let at_size : sizes.log ≡ log_size log = ap (λ (z : Sizes). z.log) before in
     let at_bytes : sizes.bytes ≡ bytes_held log = ap (λ (z : Sizes). z.bytes) before in
     let at_asked : sizes.asked ≡ asked_in log = ap (λ (z : Sizes). z.asked) before in
-    let at_failed : sizes.failed ≡ failed_in log = ap (λ (z : Sizes). z.failed) before in
     let log_is : sizes.log + 1 ≡ log_size (log ++ edit_event edit ∷ []) = omega arith in
     let bytes_is : sizes.bytes + length (put_by edit) ≡ bytes_held (log ++ edit_event edit ∷ []) = omega arith in
     let asked_is : sizes.asked ≡ asked_in (log ++ edit_event edit ∷ []) = omega arith in
-    let failed_is : sizes.failed ≡ failed_in (log ++ edit_event edit ∷ []) = omega arith in
     record {
       state_is = ap (λ (t : RootState). edited t edit) old.state_is ∙ sym longer;
-      sizes_are = λ i. record { log = log_is i; bytes = bytes_is i; asked = asked_is i; failed = failed_is i };
+      sizes_are = λ i. record { log = log_is i; bytes = bytes_is i; asked = asked_is i };
       legal = legal_push new_root log (edit_event edit) old.legal (fit.allowed, refl);
       log_fits = let f = fit.size in omega arith;
       bytes_fit = let f = fit.bytes in omega arith;
@@ -294,12 +283,9 @@ count_le p f big xs = sum_by-le-sum_by (λ x. cond (p x) 1 0) f xs (λ x. one_le
 event_counts : (e : Event) → 1 ≤ event_size e
 event_counts e = omega arith
 
--- the counts of a log are at most its size
+-- a log has at most so many operations as its size
 pub asked_fits : (log : List Event) → asked_in log ≤ log_size log
 asked_fits log = count_le is_asked event_size event_counts log
-
-pub failed_fits : (log : List Event) → failed_in log ≤ log_size log
-failed_fits log = count_le (λ e. is_failed e.answer) event_size event_counts log
 
 -- the answer of a root that isn't Full has room
 pub mem_fits : (m : MemState) (who : Who) (op : Op) (answer : Answer (List ℕ)) → bytes_held m.log ≤ MAX_BYTES_HELD → answer ≡ mem_answer m who op → is_full answer ≡ false → Fits m.log (id_of who) op answer
@@ -315,7 +301,6 @@ pub record HasRoom (sizes : Sizes) (rows appended placed : ℕ) : Type 0 where
   pub log : sizes.log + (1 + rows) ≤ MAX_LOG_SIZE
   pub bytes : sizes.bytes + (appended + placed) ≤ MAX_BYTES_HELD
   pub asked : sizes.asked ≤ MAX_LOG_SIZE
-  pub failed : sizes.failed ≤ MAX_LOG_SIZE
 
 -- a root, its model and the answer that is to be logged
 module _ (m : MemState) (log : List Event) (state : RootState) (sizes : Sizes) (who : Who) (op : Op) (answer : Answer (List ℕ)) (id placed : ℕ)
@@ -334,21 +319,19 @@ module _ (m : MemState) (log : List Event) (state : RootState) (sizes : Sizes) (
       let at_size : sizes.log ≡ log_size log = ap (λ (z : Sizes). z.log) old.sizes_are in
       let at_bytes : sizes.bytes ≡ bytes_held log = ap (λ (z : Sizes). z.bytes) old.sizes_are in
       let at_asked : sizes.asked ≡ asked_in log = ap (λ (z : Sizes). z.asked) old.sizes_are in
-      let at_failed : sizes.failed ≡ failed_in log = ap (λ (z : Sizes). z.failed) old.sizes_are in
       let same_placed : placed ≡ length (placed_by (state_of log) (id_of who) op answer) = placed_here ∙ ap (λ (t : RootState). length (placed_by t (id_of who) op answer)) old.state_is in
       let held = old.log_fits in
       let asked = asked_fits log in
-      let failed = failed_fits log in
-      record { log = omega arith; bytes = omega arith; asked = omega arith; failed = omega arith }
+      record { log = omega arith; bytes = omega arith; asked = omega arith }
 
   pub logged_of : IsSession who → (event : Event) (longer : List Event) (next : RootState) (more : Sizes) → event ≡ call_event who op answer → longer ≡ log ++ event ∷ [] → next ≡ after state id op answer
-      → more ≡ sizes_with sizes (rows_in answer) (length (appended_by op)) placed (cond (is_failed answer) 1 0) → IsOfLog longer next more
+      → more ≡ sizes_with sizes (rows_in answer) (length (appended_by op)) placed → IsOfLog longer next more
   logged_of session event longer next more event_is longer_is next_is more_is =
       same_of_log (log ++ call_event who op answer ∷ []) longer (after state (id_of who) op answer) next
-      (sizes_with sizes (rows_in answer) (length (appended_by op)) (length (placed_by state (id_of who) op answer)) (cond (is_failed answer) 1 0)) more
+      (sizes_with sizes (rows_in answer) (length (appended_by op)) (length (placed_by state (id_of who) op answer))) more
       (longer_is ∙ ap (λ (e : Event). log ++ e ∷ []) event_is)
       (next_is ∙ ap (λ (i : ℕ). after state i op answer) id_is)
-      (more_is ∙ ap (λ (n : ℕ). sizes_with sizes (rows_in answer) (length (appended_by op)) n (cond (is_failed answer) 1 0)) placed_here)
+      (more_is ∙ ap (λ (n : ℕ). sizes_with sizes (rows_in answer) (length (appended_by op)) n) placed_here)
       (recorded log state sizes who op answer session old fits_here)
 
 -- a log from which the event that was pushed was taken again

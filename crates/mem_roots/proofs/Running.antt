@@ -1,7 +1,7 @@
 -- What each call keeps, every run keeps.
 use Rattle.std.proofs.Common.{◌≡◌, ℕ, ◌+◌, ◌-◌, ◌^◌, ◌≤◌, true, false, cond, List, [], ◌∷◌, length, refl, sym, ap, subst, ◌∙◌, Some, None, min, arith}
 use Rattle.std.specs.List.{AllByRecursion}
-use Rattle.roots_api.specs.Answers.{is_full, is_failed}
+use Rattle.roots_api.specs.Answers.{is_full}
 use Rattle.roots_api.specs.Edits.{edited}
 use Rattle.roots_api.specs.Logs.{state_of, rows_in, appended_by}
 use Rattle.roots_api.specs.Steps.{after}
@@ -33,7 +33,7 @@ asked_sound m who op session s =
       | true ↦ λ _. record { legal = s.legal; log_fits = s.log_fits; bytes_fit = s.bytes_fit }
       | false ↦ λ e.
           sound_of (with_event m (call_event who op answer)) (after (state_of m.log) (id_of who) op answer)
-          (sizes_with (sizes_of m.log) (rows_in answer) (length (appended_by op)) (length (placed_by (state_of m.log) (id_of who) op answer)) (cond (is_failed answer) 1 0))
+          (sizes_with (sizes_of m.log) (rows_in answer) (length (appended_by op)) (length (placed_by (state_of m.log) (id_of who) op answer)))
           (recorded m.log (state_of m.log) (sizes_of m.log) who op answer session (of_sound m s) (mem_fits m who op answer s.bytes_fit refl e))
     ] refl
 

@@ -1,6 +1,5 @@
 // The running sizes of a log.
-ghost use Rattle.std.specs.Prelude.{◌≡◌, ◌+◌, ◌<◌, ◌^◌, ◌||◌, [], cond, length, nat_lt};
-ghost use Rattle.roots_api.specs.Answers.{is_failed};
+ghost use Rattle.std.specs.Prelude.{◌≡◌, ◌+◌, ◌<◌, ◌^◌, ◌||◌, [], length, nat_lt};
 ghost use Rattle.roots_api.specs.Logs.{rows_in, appended_by};
 
 use roots_api::{Answer, MAX_BYTES_HELD, MAX_LOG_SIZE, Op, Room};
@@ -14,8 +13,6 @@ pub(crate) struct Sizes {
     pub(crate) bytes: u64,
     /// How many operations it holds.
     pub(crate) asked: u64,
-    /// How many of them failed.
-    pub(crate) failed: u64,
 }
 
 impl Sizes {
@@ -31,7 +28,6 @@ impl Sizes {
             log: 0,
             bytes: 0,
             asked: 0,
-            failed: 0,
         }
     }
 
@@ -56,8 +52,7 @@ impl Sizes {
 }
 
 impl Sizes {
-    ghost use Rattle.std.specs.Prelude.{◌≡◌, ◌+◌, ◌≤◌, cond, length};
-    ghost use Rattle.roots_api.specs.Answers.{is_failed};
+    ghost use Rattle.std.specs.Prelude.{◌≡◌, ◌+◌, ◌≤◌, length};
     ghost use Rattle.roots_api.specs.Logs.{rows_in, appended_by};
     ghost use Rattle.mem_roots.specs.Sizes.{sizes_with, sizes_edited};
 
@@ -66,14 +61,12 @@ impl Sizes {
         requires log { self.now.log + (1 + rows_in answer.now) ≤ MAX_LOG_SIZE }
         requires bytes { self.now.bytes + (length (appended_by op.now) + placed) ≤ MAX_BYTES_HELD }
         requires asked { self.now.asked ≤ MAX_LOG_SIZE }
-        requires failed { self.now.failed ≤ MAX_LOG_SIZE }
-        ensures { result ≡ sizes_with self.now (rows_in answer.now) (length (appended_by op.now)) placed (cond (is_failed answer.now) 1 0) }
+        ensures { result ≡ sizes_with self.now (rows_in answer.now) (length (appended_by op.now)) placed }
     {
         Sizes {
             log: self.log + 1 + rows_in(answer) as u64,
             bytes: self.bytes + appended_len(op) as u64 + placed as u64,
             asked: self.asked + 1,
-            failed: self.failed + failed(answer),
         }
     }
 
@@ -87,18 +80,7 @@ impl Sizes {
             log: self.log + 1,
             bytes: self.bytes + put as u64,
             asked: self.asked,
-            failed: self.failed,
         }
-    }
-}
-
-// 1 where the operation failed, and else 0.
-fn failed(answer: &Answer) -> u64
-    ensures { result ≡ cond (is_failed answer.now) 1 0 }
-{
-    match answer {
-        Answer::Failed => 1,
-        _ => 0,
     }
 }
 

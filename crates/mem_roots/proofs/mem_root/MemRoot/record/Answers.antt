@@ -7,7 +7,7 @@ pub with-sizes-requires : goal.with-sizes-requires
 with-sizes-requires c =
     let room = has_room c.args.self.now c.self.inside.log.items c.self.inside.state c.self.inside.sizes c.args.who.now c.args.op.now c.args.answer.now c.id_of-id.result c.placed_len-placed.result
     (ap (λ (m : MemState). m.log) c.self.view_is) c.self.invariant c.requires.answer c.requires.logged c.id_of-id.ensures c.placed_len-placed.ensures in
-    record { log = room.log; bytes = room.bytes; asked = room.asked; failed = room.failed }
+    record { log = room.log; bytes = room.bytes; asked = room.asked }
 
 pub invariant_of-self-in-Ok : goal.invariant_of-self-in-Ok
 invariant_of-self-in-Ok c =
