@@ -8,4 +8,4 @@ pub mod Rows
 pub mod Setting
 pub mod Trees
 pub mod Walks
-pub mod Words
+pub mod Digests
