@@ -5,6 +5,7 @@ pub mod Digest
 pub mod Entry
 pub mod ProblemKind
 pub mod Side
+pub mod Subtree
 pub mod Text
 pub mod Tree
 pub mod Walk
