@@ -8,4 +8,4 @@ pub mod Setting
 pub mod Subtrees
 pub mod Trees
 pub mod Walks
-pub mod Words
+pub mod Digests

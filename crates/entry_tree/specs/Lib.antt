@@ -1,7 +1,7 @@
 pub mod Atom
-pub mod AtomText
 pub mod Copying
 pub mod Digest
+pub mod PieceHasher
 pub mod Entry
 pub mod ProblemKind
 pub mod Side

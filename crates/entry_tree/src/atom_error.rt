@@ -1,4 +1,4 @@
-// Why a text was not read as an atom.
+//! Why a text was not read as an atom.
 ghost use Rattle.std.specs.Prelude.{◌≡◌};
 
 use std::alloc::AllocError;

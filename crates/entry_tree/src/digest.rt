@@ -1,12 +1,12 @@
-// The digest of a file's content.
-ghost use Rattle.std.specs.Prelude.{◌≡◌, ◌==◌, IfSome, is_some};
-ghost use Rattle.entry_tree.specs.Digest.{IsDigest};
-ghost use Rattle.entry_tree.specs.AtomText.{is_digest_text};
+//! The digest of a file's content.
+ghost use Rattle.std.specs.Prelude.{◌≡◌, ◌==◌, true, IfOk, IfSome, is_some, string_bytes};
+ghost use Rattle.entry_tree.specs.Digest.{IsDigest, is_digest_text};
 ghost use Rattle.hex.specs.Hex.{encode_lower};
 ghost use Rattle.sha2.specs.Sha256.{sha256};
 
 use hex::FromHex;
 use sha2::Sha256;
+use std::alloc::{AllocError, Global};
 use std::marker::Model;
 
 /// A SHA-256 digest (FIPS 180-4), which names a file's content. Contracts see its 32 bytes.
@@ -35,6 +35,21 @@ impl Digest {
         }
     }
 
+    /// The digest that is these 32 bytes.
+    pub fn from_bytes(bytes: [u8; 32]) -> Digest
+        ensures { result ≡ bytes }
+    {
+        Digest { bytes }
+    }
+
+    /// The digest as 64 lower-case hexadecimal digits, which `read` reads.
+    pub fn write(&self, alloc: Global) -> Result<String, AllocError>
+        ensures value { IfOk result (λ digits. string_bytes digits ≡ encode_lower self.now) }
+        ensures read { IfOk result (λ digits. is_digest_text (string_bytes digits) ≡ true) }
+    {
+        digits_of(alloc, &self.bytes)
+    }
+
     /// The digest that these 64 lower-case hexadecimal digits spell; none where the text is another.
     pub fn read(digits: &str) -> Option<Digest>
         ensures value { IfSome result (λ digest. encode_lower digest ≡ digits.now) }
@@ -61,6 +76,15 @@ impl Digest {
     {
         &self.bytes
     }
+}
+
+// The digits of 32 bytes.
+fn digits_of(alloc: Global, bytes: &[u8]) -> Result<String, AllocError>
+    requires { IsDigest bytes.now }
+    ensures value { IfOk result (λ digits. string_bytes digits ≡ encode_lower bytes.now) }
+    ensures read { IfOk result (λ digits. is_digest_text (string_bytes digits) ≡ true) }
+{
+    hex::encode(alloc, bytes)
 }
 
 impl PartialEq for Digest {

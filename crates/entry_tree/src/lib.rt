@@ -12,12 +12,11 @@ mod digest;
 mod entry;
 mod names;
 mod node;
+mod piece_hasher;
 mod problem_kind;
 mod prune;
 mod put;
-mod reading;
 mod side;
-mod spelling;
 mod subtree;
 mod text;
 mod tree;
@@ -30,17 +29,14 @@ pub use child::Child;
 pub use digest::Digest;
 pub use entry::{Entry, Stamp};
 pub use node::Node;
+pub use piece_hasher::PieceHasher;
 pub use problem_kind::ProblemKind;
-pub use reading::read_atom;
 pub use side::Side;
-pub use spelling::text_of;
 pub use subtree::{Subtree, SubtreeOf};
-pub use text::{Text, TextError};
+pub use text::{MAX_TEXT_LEN, Text, TextError};
 pub use tree::{Tree, TreeOf};
 pub use tree_error::TreeError;
 pub use walk::Under;
 
-#[cfg(test)]
-mod tests;
 #[cfg(test)]
 mod tree_tests;

@@ -1,8 +1,7 @@
-// Why a file's content was not seen.
+//! Why a file's content was not seen.
 ghost use Rattle.std.specs.Prelude.{◌≡◌, IfSome, is_some};
 ghost use Rattle.std.specs.Fmt.{decimal};
-ghost use Rattle.entry_tree.specs.AtomText.{is_problem_text};
-ghost use Rattle.entry_tree.specs.ProblemKind.{problem_number};
+ghost use Rattle.entry_tree.specs.ProblemKind.{problem_number, is_problem_text};
 
 /// Why a scan did not see the content of a file that it found.
 #[derive(Clone, Copy, Debug, PartialEq, Eq)]

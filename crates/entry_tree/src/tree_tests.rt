@@ -13,7 +13,7 @@ fn planted(alloc: Global, texts: &[&str]) -> Result<Tree, Fail> {
             None => tree.set(
                 alloc,
                 &Path::read(alloc, text)?,
-                Atom::File(Digest::of(b"")),
+                Atom::File(Digest::of(b""), false),
             )?,
         }
     }
@@ -57,7 +57,11 @@ fn only_a_folder_has_something_below(rt: HostRuntime) -> Result<(), Fail> {
     assert!(rt; tree.is_empty());
     assert!(rt; tree.set(alloc, &below, Atom::Dir) == Err(TreeError::NoParent));
     tree.set(alloc, &root, Atom::Dir)?;
-    tree.set(alloc, &Path::read(alloc, "a")?, Atom::File(Digest::of(b"")))?;
+    tree.set(
+        alloc,
+        &Path::read(alloc, "a")?,
+        Atom::File(Digest::of(b""), false),
+    )?;
     assert!(rt; tree.set(alloc, &below, Atom::Dir) == Err(TreeError::NotDir));
     assert_eq!(rt; names(alloc, &tree, &root)?.as_str(), "a ");
     assert_eq!(rt; tree.len(), 2);
@@ -126,7 +130,7 @@ fn entries_stand_in_trees_too(rt: HostRuntime) -> Result<(), Fail> {
     let root = Path::root(alloc);
     tree.set(alloc, &root, Entry::Dir)?;
     let cases = [
-        ("a", Entry::File(Stamp(7))),
+        ("a", Entry::File(Stamp(7), false)),
         ("b", Entry::Link(Text::read(alloc, "a")?)),
         ("c", Entry::Other),
     ];
@@ -145,7 +149,7 @@ fn entries_stand_in_trees_too(rt: HostRuntime) -> Result<(), Fail> {
 #[test]
 fn folders_files_and_links_are_tracked(rt: HostRuntime) -> Result<(), Fail> {
     let alloc = rt.alloc();
-    let file = Atom::File(Digest::of(b"a"));
+    let file = Atom::File(Digest::of(b"a"), true);
     let link = Atom::Link(Text::read(alloc, "a")?);
     assert!(rt; Atom::Dir.is_tracked() && file.is_tracked() && link.is_tracked());
     assert!(rt; !Atom::Untracked.is_tracked());

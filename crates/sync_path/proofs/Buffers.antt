@@ -8,7 +8,8 @@ use Rattle.std.specs.List.{list_all, starts_with}
 use Rattle.std.specs.Ordering.{nat_cmp, ordering_then, is_eq}
 use lib.Pointwise.{pointwise}
 use Rattle.sync_path.specs.Buffer.{buffer_of, names_in, KeepsPath}
-use Rattle.sync_path.specs.Name.{is_name, has_name_len, is_dots, is_name_byte}
+use Rattle.std.specs.Str.{is_utf8}
+use Rattle.sync_path.specs.Name.{is_name, has_name_form, has_name_len, is_dots, is_name_byte}
 use Rattle.sync_path.specs.Path.{is_under, path_cmp}
 
 -- each byte may stand in a name
@@ -24,7 +25,7 @@ pub rest_from_plain : (b : ℕ) (bs : List ℕ) → IsPlain (b ∷ bs) → IsPla
 rest_from_plain b bs h = (and_parts (is_name_byte b) (list_all is_name_byte bs) h).1
 
 pub plain_from_name : (bs : List ℕ) → is_name bs ≡ true → IsPlain bs
-plain_from_name bs h = (and_parts (has_name_len bs && not (is_dots bs)) (list_all is_name_byte bs) h).1
+plain_from_name bs h = (and_parts (has_name_len bs && not (is_dots bs)) (list_all is_name_byte bs) (and_parts (is_utf8 bs) (has_name_form bs) h).1).1
 
 then_assoc : (a b c : Ordering) → ordering_then a (ordering_then b c) ≡ ordering_then (ordering_then a b) c
 then_assoc Less b c = refl

@@ -5,3 +5,4 @@ pub mod Ends
 pub mod TextParts
 pub mod Texts
 pub mod Intervals
+pub mod Below

@@ -5,7 +5,8 @@ use Rattle.std.proofs.lemmas.List.{append-nil}
 use Rattle.std.proofs.lemmas.List.Elements.{All-nil, All-cons}
 use Rattle.std.proofs.lemmas.List.Splits.{slice_split_none, slice_split_at, join_with_byte-slice_split}
 use Rattle.std.specs.List.{All, list_all, slice_split}
-use Rattle.sync_path.specs.Name.{is_name, has_name_len, is_dots, is_name_byte}
+use Rattle.std.specs.Str.{is_utf8}
+use Rattle.sync_path.specs.Name.{has_name_form, is_name, has_name_len, is_dots, is_name_byte}
 use Rattle.sync_path.specs.Path.{IsPath, path_text, place_behind, may_follow}
 use Rattle.sync_path.specs.PathText.{IsPathText, parts_of, IsBadPlace}
 use Rattle.sync_path.proofs.Buffers.{IsPlain, AreNames, rest_from_plain, first_plain, rest_names}
@@ -30,7 +31,7 @@ split_text n (m ∷ ns) h =
 
 some_byte : (n : List ℕ) → is_name n ≡ true → 0 < length n
 some_byte n h =
-    let len = and_parts (leb 1 (length n)) (leb (length n) 255) (and_parts (has_name_len n) (not (is_dots n)) (and_parts (has_name_len n && not (is_dots n)) (list_all is_name_byte n) h).0).0 in
+    let len = and_parts (leb 1 (length n)) (leb (length n) 255) (and_parts (has_name_len n) (not (is_dots n)) (and_parts (has_name_len n && not (is_dots n)) (list_all is_name_byte n) (and_parts (is_utf8 n) (has_name_form n) h).1).0).0 in
     let most : 1 ≤ length n = leb-true 1 (length n) len.0 in
     omega arith
 

@@ -6,14 +6,7 @@ use Rattle.std.specs.List.{list_all, join_with_byte}
 use Rattle.std.specs.Option.{option_map}
 use Rattle.std.specs.Ordering.{nat_cmp}
 use Rattle.sync_path.specs.Name.{is_name}
-
--- the greatest number of names that a path has
-abbrev pub max_depth : ℕ
-max_depth = 64
-
--- the greatest length of a path's text, in bytes
-abbrev pub max_path_len : ℕ
-max_path_len = 4096
+use Rattle.sync_path.specs.declared.limits.TheConstants.{MAX_DEPTH, MAX_PATH_LEN}
 
 -- the text of a path: its names with a `/` (47) between each two, and no byte for the root
 abbrev pub path_text : List (List ℕ) → List ℕ
@@ -22,8 +15,8 @@ path_text names = join_with_byte 47 names
 -- These names, of the outermost folder first, make a path.
 pub record IsPath (names : List (List ℕ)) : Type 0 where
   pub each_name : IsTrue (list_all is_name names)
-  pub depth : length names ≤ max_depth
-  pub len : length (path_text names) ≤ max_path_len
+  pub depth : length names ≤ MAX_DEPTH
+  pub len : length (path_text names) ≤ MAX_PATH_LEN
 
 -- where in a text a name begins that stands behind these: behind each of them there's a `/`
 abbrev pub place_behind : List (List ℕ) → ℕ
@@ -32,7 +25,7 @@ place_behind (name ∷ names) = length name + 1 + place_behind names
 
 -- whether a name of so many bytes may stand behind so many names and begin at this place
 abbrev pub has_room : ℕ → ℕ → ℕ → Bool
-has_room depth place len = nat_lt depth max_depth && nat_le (place + len) max_path_len
+has_room depth place len = nat_lt depth MAX_DEPTH && nat_le (place + len) MAX_PATH_LEN
 
 -- whether these bytes may stand behind the names of a path: they are a name, not the 65th, and end by byte 4,096
 abbrev pub may_follow : List (List ℕ) → List ℕ → Bool
@@ -59,3 +52,10 @@ abbrev pub is_under : List (List ℕ) → List (List ℕ) → Bool
 is_under path [] = true
 is_under [] (name ∷ names) = false
 is_under (first ∷ path) (name ∷ names) = bytes_eq name first && is_under path names
+
+-- whether a path lies below another: under it, and another path
+abbrev pub is_below : List (List ℕ) → List (List ℕ) → Bool
+is_below [] [] = false
+is_below (first ∷ path) [] = true
+is_below [] (name ∷ names) = false
+is_below (first ∷ path) (name ∷ names) = bytes_eq name first && is_below path names

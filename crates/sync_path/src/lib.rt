@@ -10,12 +10,14 @@
 #![tactic(auto)]
 
 pub mod laws;
+mod limits;
 mod name;
 mod names;
 mod path;
 mod path_error;
 mod reading;
 
+pub use limits::{MAX_DEPTH, MAX_NAME_LEN, MAX_PATH_LEN};
 pub use name::Name;
 pub use names::Names;
 pub use path::Path;

@@ -1,18 +1,16 @@
-// A component of a path.
+//! A component of a path.
 ghost use Rattle.std.specs.Prelude.{◌≡◌, ◌⊎◌, ◌↔◌, ◌==◌, OnOk, IfOk, IfErr, Some, Err};
 ghost use Rattle.std.specs.Cmp.Lexicographic.{slice_cmp};
 ghost use Rattle.std.specs.List.{list_all};
 ghost use Rattle.std.specs.Ordering.{nat_cmp};
-ghost use Rattle.sync_path.specs.Name.{is_name, IsName, has_name_len, is_dots, is_name_byte};
+ghost use Rattle.sync_path.specs.Name.{is_name, IsName, has_name_form, has_name_len, is_dots, is_name_byte};
 ghost use Rattle.sync_path.specs.declared.path_error.PathError.TheVariants.{Bad, Memory};
 
+use crate::limits::MAX_NAME_LEN;
 use crate::path_error::{BadPath, PathError};
 use std::alloc::{AllocError, Global};
 use std::cmp::Ordering;
 use std::marker::Model;
-
-/// The greatest length of a name, in bytes.
-const MAX_NAME_LEN: usize = 255;
 
 /// A component of a path: 1 to 255 bytes of UTF-8, without `/`, without a byte below 0x20, and neither `.` nor `..`.
 ///
@@ -85,6 +83,13 @@ impl Name {
 // Whether the text is a name.
 pub(crate) fn is_name(text: &str) -> bool
     ensures { result ≡ is_name text.now }
+{
+    has_name_form(text)
+}
+
+// Whether the text, which is UTF-8 by its type, has the length and the bytes of a name.
+fn has_name_form(text: &str) -> bool
+    ensures { result ≡ has_name_form text.now }
 {
     let bytes = text.as_bytes();
     has_name_len(bytes) && !is_dots(text) && has_name_bytes(bytes)

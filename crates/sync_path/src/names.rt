@@ -1,4 +1,4 @@
-// The names of a path, one after another.
+//! The names of a path, one after another.
 ghost use Rattle.std.specs.Prelude.{◌≡◌, [], MatchOption};
 ghost use Rattle.std.specs.Iterator.{YieldsFirstRef, item_count};
 ghost use Rattle.sync_path.specs.Buffer.{buffer_of, names_in, SplitsFirst};

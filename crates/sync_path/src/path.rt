@@ -1,12 +1,13 @@
-// A path below a root.
+//! A path below a root.
 ghost use Rattle.std.specs.Prelude.{List, ◌≡◌, ◌==◌, ◌≤◌, ◌+◌, ◌++◌, ◌∷◌, ◌↔◌, ◌⊎◌, ℕ, [], length, IfOk, IfErr, OnOk, OnErr, IfSome, IsTrue, IsFalse, Some, Err, string_bytes, MatchOption};
 ghost use Rattle.std.specs.Option.{option_copied};
 ghost use Rattle.sync_path.specs.Name.{IsName};
-ghost use Rattle.sync_path.specs.Path.{IsPath, is_under, path_cmp, path_text, place_behind, may_follow, parent_of, last_name};
+ghost use Rattle.sync_path.specs.Path.{IsPath, is_under, is_below, path_cmp, path_text, place_behind, may_follow, parent_of, last_name};
 ghost use Rattle.sync_path.specs.PathText.{IsPathText, IsBadPlace};
 ghost use Rattle.sync_path.specs.Buffer.{KeepsPath, SplitsLast};
 ghost use Rattle.sync_path.specs.declared.path_error.PathError.TheVariants.{Bad, Memory};
 
+use crate::limits::MAX_PATH_LEN;
 use crate::name::Name;
 use crate::names::Names;
 use crate::path_error::{BadPath, PathError};
@@ -119,7 +120,7 @@ impl Path {
     }
 
     /// The last name as a value of its own. None exactly for the root. Cost: one allocation, and the name's length.
-    pub fn name(&self, alloc: Global) -> Result<Option<Name>, AllocError>
+    pub fn copy_last_name(&self, alloc: Global) -> Result<Option<Name>, AllocError>
         ensures value { IfOk result (λ name. name ≡ last_name self.now) }
     {
         match self.last_name() {
@@ -199,6 +200,14 @@ impl Path {
         self.buffer.as_str().starts_with(other.buffer.as_str())
     }
 
+    /// Whether this path lies below the other: it is under it and isn't the same path.
+    /// It takes no memory. Cost: at most the length of the other's text.
+    pub fn is_below(&self, other: &Path) -> bool
+        ensures { result ≡ is_below self.now other.now }
+    {
+        other.compare(self).is_lt() && self.is_under(other)
+    }
+
     /// How the two stand in path order. It takes no memory. Cost: up to the first byte that differs.
     pub fn compare(&self, other: &Path) -> Ordering
         ensures { result ≡ path_cmp self.now other.now }
@@ -209,7 +218,7 @@ impl Path {
 
 // The buffer with a further name.
 fn buffer_with(alloc: Global, buffer: &str, name: &str) -> Result<String, AllocError>
-    requires { length buffer.now ≤ 4097 }
+    requires { length buffer.now ≤ MAX_PATH_LEN + 1 }
     ensures { IfOk result (λ all. string_bytes all ≡ buffer.now ++ name.now ++ 0 ∷ []) }
 {
     let mut all = String::with_capacity(alloc, buffer.len() + name.len() + 1)?;

@@ -1,4 +1,4 @@
-// Why a text was not read.
+//! Why a text was not read.
 ghost use Rattle.std.specs.Prelude.{◌≡◌};
 
 use std::alloc::AllocError;
@@ -10,11 +10,11 @@ pub struct BadPath {
     pub place: u32,
 }
 
-/// Why a name was not read.
+/// Why a name or a path was not read.
 #[derive(Clone, Copy, Debug, PartialEq, Eq, Error)]
 pub enum PathError {
     /// The text breaks the rules.
-    #[error("not a path, at byte {place}", place = .0.place)]
+    #[error("a name that is not allowed, at byte {place}", place = .0.place)]
     Bad(BadPath),
     /// There was no memory.
     #[error("out of memory")]

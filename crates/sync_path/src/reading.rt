@@ -1,22 +1,17 @@
-// How the text of a path is read.
+//! How the text of a path is read.
 ghost use Rattle.std.specs.Prelude.{◌≡◌, ◌≤◌, ◌&&◌, length, IfOk, MatchOption, string_bytes};
 ghost use Rattle.sync_path.specs.Buffer.{buffer_of};
 ghost use Rattle.sync_path.specs.Name.{is_name};
 ghost use Rattle.sync_path.specs.Path.{IsPath, has_room};
 ghost use Rattle.sync_path.specs.PathText.{parts_of, IsBadPlace};
 
+use crate::limits::{MAX_DEPTH, MAX_NAME_LEN, MAX_PATH_LEN};
 use crate::name::is_name;
 use std::alloc::{AllocError, Global};
 
-/// The greatest number of names that a path has.
-const MAX_DEPTH: usize = 64;
-
-/// The greatest length of a path's text, in bytes.
-const MAX_PATH_LEN: u32 = 4096;
-
 /// Whether a name of so many bytes may stand behind so many names and begin at this place.
 pub fn has_room(depth: usize, place: u32, len: usize) -> bool
-    requires { len ≤ 255 }
+    requires { len ≤ MAX_NAME_LEN }
     ensures { result ≡ has_room depth place len }
 {
     depth < MAX_DEPTH && place as usize + len <= MAX_PATH_LEN as usize
@@ -50,7 +45,7 @@ pub fn bad_place(text: &str) -> Option<u32>
 
 /// The buffer of the parts of a text.
 pub fn buffer_of_text(alloc: Global, text: &str) -> Result<String, AllocError>
-    requires { length text.now ≤ 4096 }
+    requires { length text.now ≤ MAX_PATH_LEN }
     ensures { IfOk result (λ buffer. string_bytes buffer ≡ buffer_of (parts_of text.now)) }
 {
     let mut buffer = String::new(alloc);

@@ -1,4 +1,4 @@
-// Copies of trees.
+//! Copies of trees.
 ghost use Rattle.std.specs.Prelude.{◌≡◌, IfOk, OnOk};
 ghost use Rattle.std.specs.FinMap as map;
 ghost use Rattle.sync_path.specs.Path.{path_cmp};

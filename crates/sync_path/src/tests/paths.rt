@@ -81,7 +81,7 @@ fn a_child_and_its_parent(rt: HostRuntime) -> Result<(), Fail> {
     let child = path.child(alloc, &Name::read(alloc, "c")?)?;
     assert_eq!(rt; child.write(alloc)?.as_str(), "a/b/c");
     assert_eq!(rt; child.last_name(), Some("c"));
-    let name = child.name(alloc)?.ok_or("a name")?;
+    let name = child.copy_last_name(alloc)?.ok_or("a name")?;
     assert_eq!(rt; name.as_str(), "c");
     let parent = child.parent(alloc)?.ok_or("a parent")?;
     assert_eq!(rt; parent.write(alloc)?.as_str(), "a/b");

@@ -1,0 +1,5 @@
+pub mod Cutting
+pub mod Numbers
+pub mod ReadBack
+pub mod Spellings
+pub mod Unescaping
