@@ -8,6 +8,7 @@ pub mod PieceHasher
 pub mod Entry
 pub mod ProblemKind
 pub mod Side
+pub mod Subtree
 pub mod Text
 pub mod Tree
 pub mod Walk

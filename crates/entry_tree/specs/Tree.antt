@@ -1,5 +1,5 @@
 -- Trees: what stands at each path, as a finite map closed under parents.
-use Rattle.std.specs.Prelude.{ℕ, Bool, false, not, ◌||◌, cond, List, [], ◌∷◌, ◌++◌, bytes_eq, IsTrue, Option, Some, None}
+use Rattle.std.specs.Prelude.{ℕ, Bool, false, not, cond, List, [], ◌∷◌, ◌++◌, bytes_eq, IsTrue, Option, Some, None}
 use Rattle.std.specs.FinMap as map
 use Rattle.std.specs.List.{filter, filter_map, list_any}
 use Rattle.std.specs.Option.{option_map}
@@ -55,14 +55,6 @@ module _ {X : Type 0} where
   -- the tree without all below a path
   abbrev pub without_below : ByPath X → Names → ByPath X
   without_below tree path = map.retain_keys tree (λ q. not (is_below q path))
-
-  -- the tree's part at a path: what stands at and below it, and the folders above it
-  abbrev pub part : ByPath X → Names → ByPath X
-  part tree path = map.retain_keys tree (λ q. is_under q path || is_under path q)
-
-  -- the folders above a path
-  abbrev pub folders_above : ByPath X → Names → ByPath X
-  folders_above tree path = map.retain_keys tree (λ q. is_below path q)
 
   -- what the tree holds at the parent of a path; outer None for the root, which has no parent
   abbrev pub at_parent : ByPath X → Names → Option (Option X)

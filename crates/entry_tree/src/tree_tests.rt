@@ -1,4 +1,4 @@
-use crate::{Atom, Digest, Entry, Node, Side, Stamp, Text, Tree, TreeError, TreeOf};
+use crate::{Atom, Digest, Entry, Node, Side, Stamp, Subtree, Text, Tree, TreeError, TreeOf};
 use std::alloc::{AllocError, Global};
 use std::test::Fail;
 use sync_path::Path;
@@ -79,10 +79,6 @@ fn walks_are_in_path_order_and_removals_take_what_is_below(rt: HostRuntime) -> R
     assert_eq!(rt; names(alloc, &tree, &a)?.as_str(), "b z ");
     assert_eq!(rt; names(alloc, &tree, &root)?.as_str(), "a a-b ab ");
     assert!(rt; tree.has_below(&a));
-    let part = tree.part(alloc, &Path::read(alloc, "a/b")?)?;
-    assert_eq!(rt; paths(alloc, &part)?.as_str(), " a a/b a/b/c ");
-    let above = tree.folders_above(alloc, &Path::read(alloc, "a/b")?)?;
-    assert_eq!(rt; paths(alloc, &above)?.as_str(), " a ");
     let mut copy = tree.copy(alloc)?;
     tree.set(alloc, &a, Atom::Link(Text::read(alloc, "ab")?))?;
     assert_eq!(rt; paths(alloc, &tree)?.as_str(), " a a-b ab ");
@@ -91,6 +87,26 @@ fn walks_are_in_path_order_and_removals_take_what_is_below(rt: HostRuntime) -> R
     assert_eq!(rt; paths(alloc, &copy)?.as_str(), " a-b ab ");
     copy.remove_under(&root);
     assert!(rt; copy.is_empty());
+    Ok(())
+}
+
+#[test]
+fn a_subtree_holds_what_stands_at_and_below_its_path(rt: HostRuntime) -> Result<(), Fail> {
+    let alloc = rt.alloc();
+    let tree = planted(alloc, &["ab", "a-b", "a/", "a/z", "a/b/", "a/b/c"])?;
+    let subtree = tree
+        .subtree(alloc, &Path::read(alloc, "a/b")?)?
+        .copy(alloc)?;
+    let mut all = String::new(alloc);
+    for (path, node) in subtree.entries().iter().rev() {
+        assert!(rt; subtree.get(path) == Some(node) && tree.get(path) == Some(node));
+        all.push_str(path.write(alloc)?.as_str())?;
+        all.push_str(" ")?;
+    }
+    assert_eq!(rt; all.as_str(), "a/b/c a/b ");
+    assert!(rt; subtree.get(&Path::read(alloc, "a")?).is_none());
+    assert!(rt; subtree.len() == 2 && !subtree.is_empty());
+    assert!(rt; Subtree::new(alloc).is_empty());
     Ok(())
 }
 

@@ -6,7 +6,7 @@ use Rattle.std.specs.List.{filter, list_all, list_any, AllByRecursion}
 use Rattle.std.specs.Option.{is_some}
 use Rattle.std.specs.Ordering.{eq_by_cmp}
 use Rattle.std.proofs.lemmas.Bool.{and_parts, and_from, or_cases, or_right}
-use Rattle.sync_path.specs.Path.{path_cmp, is_under}
+use Rattle.sync_path.specs.Path.{path_cmp, is_under, is_below}
 use Rattle.sync_path.specs.PathOrder.{path_cmp_total}
 use Rattle.entry_tree.specs.Atom.{is_dir, is_tracked}
 use Rattle.entry_tree.specs.Tree.{Names, ByPath, IsClosed}
@@ -17,16 +17,16 @@ use Rattle.entry_tree.proofs.Paths.{path_same, under_itself}
 use Rattle.mode_rules.specs.declared.conflict.Conflict.{Conflict}
 use Rattle.mode_rules.specs.declared.mode.Mode.{Mode}
 use Rattle.mode_rules.specs.declared.mode.Mode.TheVariants.{TwoWaySafe, TwoWayResolved, OneWayReplica}
-use Rattle.mode_rules.specs.declared.plan.Change.{Change}
-use Rattle.mode_rules.specs.declared.standing.Standing.{Standing}
+use Rattle.mode_rules.specs.declared.change.Change.{Change}
+use Rattle.mode_rules.specs.declared.comparing.Comparison.{Comparison}
 use Rattle.mode_rules.specs.declared.verdict.Verdict.{Verdict}
 use Rattle.mode_rules.specs.declared.verdict.Verdict.TheVariants as verdicts
 use Rattle.mode_rules.specs.Laws.{AreTracked, HoldsOnlyTracked, MakesSidesMeet, is_of, after}
-use Rattle.mode_rules.specs.Trees.{Trees, paths_of, is_point, is_in_folders, is_above, is_blocked, holds_folder}
-use Rattle.mode_rules.specs.Verdicts.{by_mode, first_case, standing, verdict}
+use Rattle.mode_rules.specs.Trees.{Trees, paths_of, is_point, is_in_folders, is_blocked, holds_folder}
+use Rattle.mode_rules.specs.Verdicts.{by_mode, first_case, comparison, verdict}
 use Rattle.mode_rules.specs.Plans.{change_at, change_by, conflict_at, conflict_by, plan_of}
-use Rattle.mode_rules.proofs.After.{get-part, get-folders_above, touches, Gives, after_kept, after_given, all_kept_where, any_kept}
-use Rattle.mode_rules.proofs.Below.{under_both, one_is_under, folder_above, folders, Decider, decider}
+use Rattle.mode_rules.proofs.After.{get-subtree, touches, Gives, after_kept, after_given, all_kept_where, any_kept}
+use Rattle.mode_rules.proofs.Below.{under_both, below_is_under, one_is_under, folder_above, folders, Decider, decider}
 use Rattle.mode_rules.proofs.Cases.{by_case, folders_agree, one_holds, less_is}
 use Rattle.mode_rules.proofs.Held.{has_alphas, has_betas, less_each, says_each}
 
@@ -43,7 +43,7 @@ Met Has Same h k verdicts.Left = ⊥
 Met Has Same h k verdicts.Blocked = ⊥
 Met Has Same h k verdicts.BetaKeeps = ⊥
 
-abbrev stands : Bool → Bool → Standing
+abbrev stands : Bool → Bool → Comparison
 stands same less = record { same = same; less = less }
 
 safe_met : (Has Same : Type 0) (a al b bl h k : Bool) → Has → (al ≡ true → bl ≡ true → k ≡ not h) → Met Has Same h k (by_mode TwoWaySafe h (stands a al) (stands b bl))
@@ -55,13 +55,13 @@ safe_met Has Same false true false false h k has one = has
 safe_met Has Same false false false true h k has one = has
 safe_met Has Same false false false false h k has one = has
 
-resolved_met : (Has Same : Type 0) (a al : Bool) (s : Standing) (h k : Bool) → Has → Met Has Same h k (by_mode TwoWayResolved h (stands a al) s)
+resolved_met : (Has Same : Type 0) (a al : Bool) (s : Comparison) (h k : Bool) → Has → Met Has Same h k (by_mode TwoWayResolved h (stands a al) s)
 resolved_met Has Same true al s h k has = has
 resolved_met Has Same false al s h k has = has
 
 -- the modes in which a path that differs is taken from one side, or is a conflict
 abbrev pub Takes : Mode → Type 1
-Takes mode = (Has Same : Type 0) (sa sb : Standing) (h k : Bool) → Has → (sa.less ≡ true → sb.less ≡ true → k ≡ not h) → Met Has Same h k (by_mode mode h sa sb)
+Takes mode = (Has Same : Type 0) (sa sb : Comparison) (h k : Bool) → Has → (sa.less ≡ true → sb.less ≡ true → k ≡ not h) → Met Has Same h k (by_mode mode h sa sb)
 
 pub safe_takes : Takes TwoWaySafe
 safe_takes Has Same sa sb h k has one = safe_met Has Same sa.same sa.less sb.same sb.less h k has one
@@ -108,8 +108,8 @@ module _ (mode : Mode) (takes : Takes mode) (t : Trees) (tracked : AreTracked t)
   known p =
       let a = trees.get t.alpha p in
       let b = trees.get t.beta p in
-      let sa : Standing = standing t t.alpha p in
-      let sb : Standing = standing t t.beta p in
+      let sa : Comparison = comparison t t.alpha p in
+      let sb : Comparison = comparison t t.beta p in
       let free : (is_blocked a || is_blocked b) ≡ false = λ i. is_free t.alpha p tracked.alpha_tracked i || is_free t.beta p tracked.beta_tracked i in
       by_case (Met (list_any (eq_by_cmp path_cmp p) (paths_of t) ≡ true) (a ≡ b) (is_some a) (is_some b)) mode a b sa sb
       (λ _ stops. let no : true ≡ false = sym stops ∙ free in cc)
@@ -131,18 +131,18 @@ module _ (mode : Mode) (takes : Takes mode) (t : Trees) (tracked : AreTracked t)
 
   gone : (p : Names) → is_some (trees.get t.alpha p) ≡ false → is_some (trees.get t.beta p) ≡ false → verdict mode t p ≡ verdicts.Gone
   gone p none_a none_b =
-      ap (λ (o : Option Atom). first_case mode o (trees.get t.beta p) (standing t t.alpha p) (standing t t.beta p)) (none_there _ none_a)
-      ∙ ap (λ (o : Option Atom). first_case mode None o (standing t t.alpha p) (standing t t.beta p)) (none_there _ none_b)
+      ap (λ (o : Option Atom). first_case mode o (trees.get t.beta p) (comparison t t.alpha p) (comparison t t.beta p)) (none_there _ none_a)
+      ∙ ap (λ (o : Option Atom). first_case mode None o (comparison t t.alpha p) (comparison t t.beta p)) (none_there _ none_b)
 
   module _ (q : Names) (d : Decider t q) where
     is_the_point : is_point t d.at ≡ true
     unfolding is_in_folders
     is_the_point = all_true _ (λ p. by p (is_under d.at p) (is_under p d.at) refl refl) (paths_of t)
       where
-        by : (p : Names) (a b : Bool) → is_under d.at p ≡ a → is_under p d.at ≡ b → (not (is_above p d.at) || folders t p) ≡ true
-        by p true false e f = or_right (not (is_above p d.at)) (folders t p) (d.clear p e f)
-        by p true true e f = ap (λ b. not (is_under d.at p && not b) || folders t p) f ∙ ap (λ b. not (b && false) || folders t p) e
-        by p false b e f = ap (λ b. not (b && not (is_under p d.at)) || folders t p) e
+        by : (p : Names) (a b : Bool) → is_under d.at p ≡ a → is_under p d.at ≡ b → (not (is_below d.at p) || folders t p) ≡ true
+        by p true false e f = or_right (not (is_below d.at p)) (folders t p) (d.clear p e f)
+        by p true true e f = ap (λ b. not b || folders t p) (below_is_under d.at p) ∙ ap (λ b. not (is_under d.at p && not b) || folders t p) f ∙ ap (λ b. not (b && false) || folders t p) e
+        by p false b e f = ap (λ b. not b || folders t p) (below_is_under d.at p) ∙ ap (λ b. not (b && not (is_under p d.at)) || folders t p) e
 
     -- below where it stops, on a path that nothing hides, no side holds anything
     nothing_below : (side : ByPath Atom) → IsClosed is_dir side → (p : Names) → is_under p d.at ≡ true → is_under d.at p ≡ false
@@ -159,12 +159,12 @@ module _ (mode : Mode) (takes : Takes mode) (t : Trees) (tracked : AreTracked t)
     point_lets : (p : Names) → is_point t p ≡ true → list_any (eq_by_cmp path_cmp d.at) (paths_of t) ≡ true → is_under p d.at ≡ true → is_under d.at p ≡ false → folders t d.at ≡ true
     unfolding is_in_folders
     point_lets p point has up down =
-        let each : (not (is_above d.at p) || folders t d.at) ≡ true = says_each (λ x. not (is_above x p) || folders t x) (λ _. true) d.at (paths_of t) has (every (paths_of t) point) refl in
-        (λ i. not (sym up i && not (sym down i)) || folders t d.at) ∙ each
+        let each : (not (is_below p d.at) || folders t d.at) ≡ true = says_each (λ x. not (is_below p x) || folders t x) (λ _. true) d.at (paths_of t) has (every (paths_of t) point) refl in
+        (λ i. not (sym up i && not (sym down i)) || folders t d.at) ∙ ap (λ b. not b || folders t d.at) (sym (below_is_under p d.at)) ∙ each
       where
-        every : (ps : List Names) → list_all (λ x. not (is_above x p) || folders t x) ps ≡ true → list_all (λ x. not (is_above x p) || folders t x) (filter (λ _. true) ps) ≡ true
+        every : (ps : List Names) → list_all (λ x. not (is_below p x) || folders t x) ps ≡ true → list_all (λ x. not (is_below p x) || folders t x) (filter (λ _. true) ps) ≡ true
         every [] h = refl
-        every (x ∷ ps) h = let both = and_parts (not (is_above x p) || folders t x) _ h in and_from _ _ both.0 (every ps both.1)
+        every (x ∷ ps) h = let both = and_parts (not (is_below p x) || folders t x) _ h in and_from _ _ both.0 (every ps both.1)
 
     -- of the points at or above the path only the one that decides it can make a change
     one_changes : (p : Names) → is_point t p ≡ true → is_under q p ≡ true → (change_at mode t p ≡ None) ⊎ (p ≡ d.at)
@@ -264,19 +264,19 @@ module _ (mode : Mode) (takes : Takes mode) (t : Trees) (tracked : AreTracked t)
             → Met (list_any (eq_by_cmp path_cmp d.at) (paths_of t) ≡ true) (trees.get t.alpha d.at ≡ trees.get t.beta d.at) (is_some (trees.get t.alpha d.at)) (is_some (trees.get t.beta d.at)) v
             → trees.get (after Alpha t.alpha (plan_of mode t).changes) q ≡ trees.get (after Beta t.beta (plan_of mode t).changes) q
         by verdicts.AlphaTakes is has =
-            becomes Alpha t.alpha (trees.get t.beta q) _ has (change verdicts.AlphaTakes is) d.under (get-part t.beta d.at q d.under)
+            becomes Alpha t.alpha (trees.get t.beta q) _ has (change verdicts.AlphaTakes is) d.under (get-subtree t.beta d.at q d.under)
             ∙ sym (stays Beta t.beta (other Beta _ verdicts.AlphaTakes is (λ there. let no : false ≡ true = there in absurd (cc))))
         by verdicts.BetaTakes is has =
             stays Alpha t.alpha (other Alpha _ verdicts.BetaTakes is (λ there. let no : false ≡ true = there in absurd (cc)))
-            ∙ sym (becomes Beta t.beta (trees.get t.alpha q) _ has (change verdicts.BetaTakes is) d.under (get-part t.alpha d.at q d.under))
+            ∙ sym (becomes Beta t.beta (trees.get t.alpha q) _ has (change verdicts.BetaTakes is) d.under (get-subtree t.alpha d.at q d.under))
         by verdicts.AlphaEmptied is met =
-            becomes Alpha t.alpha None _ met.0 (change verdicts.AlphaEmptied is) d.under (get-folders_above t.alpha d.at q d.under)
+            becomes Alpha t.alpha None _ met.0 (change verdicts.AlphaEmptied is) d.under (trees.get-empty path_cmp q)
             ∙ sym (both_gone t.beta tracked.beta_closed met.1)
             ∙ sym (stays Beta t.beta (other Beta _ verdicts.AlphaEmptied is (λ there. let no : false ≡ true = there in absurd (cc))))
         by verdicts.BetaEmptied is met =
             stays Alpha t.alpha (other Alpha _ verdicts.BetaEmptied is (λ there. let no : false ≡ true = there in absurd (cc)))
             ∙ both_gone t.alpha tracked.alpha_closed met.1
-            ∙ sym (becomes Beta t.beta None _ met.0 (change verdicts.BetaEmptied is) d.under (get-folders_above t.beta d.at q d.under))
+            ∙ sym (becomes Beta t.beta None _ met.0 (change verdicts.BetaEmptied is) d.under (trees.get-empty path_cmp q))
         by verdicts.Gone is met =
             unchanged verdicts.Gone is refl (both_gone t.alpha tracked.alpha_closed met.0 ∙ sym (both_gone t.beta tracked.beta_closed met.1))
         by verdicts.Agreed is same = unchanged verdicts.Agreed is refl (both_agree same)

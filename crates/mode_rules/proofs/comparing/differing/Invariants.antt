@@ -2,7 +2,7 @@ use Rattle.std.proofs.Common.{◌≡◌, ◌++◌, not, drop}
 use Rattle.std.specs.List.{filter}
 use Rattle.sync_path.specs.Path.{is_under}
 use Rattle.mode_rules.specs.Trees.{is_same_at}
-use Rattle.mode_rules.proofs.standing.differing.Given as goal
+use Rattle.mode_rules.proofs.comparing.differing.Given as goal
 
 -- what was found, and what is still to be found, is all that is to be found
 abbrev pub invariant-loop-other : goal.invariant-loop-other

@@ -1,4 +1,4 @@
-// How a side stands to the ancestor.
+//! How a side stands to the ancestor.
 ghost use Rattle.std.specs.Prelude.{◌≡◌, IfOk, not};
 ghost use Rattle.std.specs.List.{filter, list_all};
 ghost use Rattle.std.specs.Option.{option_copied};
@@ -12,7 +12,7 @@ use sync_path::Path;
 
 /// How a side stands to the ancestor, at and below a path.
 #[derive(Clone, Copy, Debug, PartialEq, Eq)]
-pub struct Standing {
+pub struct Comparison {
     /// It is as the ancestor.
     pub same: bool,
     /// It holds only what the ancestor holds in the same place.
