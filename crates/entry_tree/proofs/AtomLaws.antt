@@ -1,5 +1,5 @@
 -- An atom's words are good or bad, and bad at one place.
-use Rattle.std.proofs.Common.{◌≡◌, ℕ, ◌<◌, ◌/◌, ◌%◌, Bool, true, false, cond, List, [], ◌∷◌, ◌++◌, length, codes, refl, sym, ap, subst, ◌∙◌, append_assoc, arith, Option, Some, None, map, lit<}
+use Rattle.std.proofs.Common.{◌≡◌, ℕ, ◌<◌, ◌/◌, ◌%◌, Bool, true, false, List, [], ◌∷◌, ◌++◌, length, codes, refl, sym, ap, subst, ◌∙◌, append_assoc, arith, Some, map, lit<}
 use Rattle.std.specs.Prelude.{nat_lt}
 use Rattle.std.specs.List.{list_all}
 use Rattle.std.proofs.lemmas.Bool.{and_parts, ltb-true}
@@ -10,7 +10,7 @@ use Rattle.hex.specs.Hex.{encode_lower, encode_with, lower_digits}
 use Rattle.line_words.specs.Lines.{Item, HasWords, AreBytes, AreWords, line_items}
 use Rattle.line_words.specs.declared.reading.Reading.TheVariants.{Canonical}
 use Rattle.line_words.proofs.ReadBack.{written_read, words_placed}
-use Rattle.entry_tree.specs.AtomText.{words_of, spelling_of, executable_word, IsAtom, BeginsAtom, NoneGoesOn, StopsAt, GoesWrong, IsBadAtom}
+use Rattle.entry_tree.specs.AtomText.{words_of, spelling_of, executable_word, IsAtom, BeginsAtom, NoneGoesOn, StopsAt, IsBadAtom}
 use Rattle.entry_tree.specs.ProblemKind.{problem_number}
 use Rattle.entry_tree.specs.declared.problem_kind.ProblemKind.{ProblemKind}
 use Rattle.entry_tree.specs.declared.problem_kind.ProblemKind.TheVariants.{Changed, TooLarge, Failed}

@@ -1,15 +1,14 @@
 -- Which words begin an atom, and how a reader goes on behind some words.
-use Rattle.std.proofs.Common.{◌≡◌, ℕ, ◌<◌, Bool, true, false, cond, List, [], ◌∷◌, ◌++◌, length, get_or, codes, bytes_eq, refl, sym, ap, subst, ◌∙◌, append_assoc, arith, Option, Some, None, Result, Ok, Err, map, replicate, lit<, inl, inr, zero, suc}
-use Rattle.std.specs.Prelude.{◌==◌, ◌&&◌, ◌⊎◌}
+use Rattle.std.proofs.Common.{◌≡◌, ℕ, ◌<◌, Bool, true, false, cond, List, [], ◌∷◌, ◌++◌, get_or, codes, bytes_eq, refl, sym, ap, subst, ◌∙◌, append_assoc, Option, Some, None, Result, Ok, Err, map, replicate, lit<, inl, inr, zero, suc}
+use Rattle.std.specs.Prelude.{◌&&◌, ◌⊎◌}
 use Rattle.std.specs.Fmt.{decimal}
 use Rattle.std.proofs.lemmas.Fmt.{decimal_digit}
 use Rattle.std.proofs.lemmas.List.{append-nil}
 use Rattle.std.specs.Str.{IsAscii}
 use Rattle.std.proofs.lemmas.Str.{is_utf8-from_IsUtf8, IsUtf8-from_ascii}
 use Rattle.hex.specs.Hex.{IsBytes, encode_lower}
-use Rattle.line_words.specs.Lines.{Item, HasWords, AreBytes}
-use Rattle.line_words.specs.Placed.{Placed}
-use Rattle.entry_tree.specs.Digest.{IsDigest, is_digest_text}
+use Rattle.line_words.specs.Lines.{Item, AreBytes}
+use Rattle.entry_tree.specs.Digest.{is_digest_text}
 use Rattle.entry_tree.specs.ProblemKind.{problem_number, is_problem_text}
 use Rattle.entry_tree.specs.Text.{has_text_len}
 use Rattle.entry_tree.specs.declared.problem_kind.ProblemKind.{ProblemKind}

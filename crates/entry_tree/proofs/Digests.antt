@@ -1,8 +1,7 @@
 -- The digits of a digest.
-use Rattle.std.proofs.Common.{◌≡◌, Bool, true, false, cond, List, ℕ, ◌/◌, ◌%◌, length, ap, ◌∙◌, Result, Ok, Err}
+use Rattle.std.proofs.Common.{◌≡◌, Bool, true, false, List, ℕ, ◌/◌, ◌%◌, length, ap, ◌∙◌, Ok, Err}
 use Rattle.std.specs.Prelude.{◌==◌, if◌then◌else◌}
 use Rattle.hex.specs.Hex.{IsBytes, encode_lower, decode_sized, decode_pairs}
-use Rattle.hex.specs.declared.error.FromHexError.{FromHexError}
 use Rattle.hex.specs.declared.error.FromHexError.TheVariants.{OddLength, InvalidStringLength}
 use Rattle.hex.proofs.HexLemmas.{decode_sized-encode_lower, decode_pairs-ok}
 use Rattle.entry_tree.specs.Digest.{is_digest_text, spells_back}

@@ -1,10 +1,9 @@
 -- What the steps of the reader of atoms answer.
-use Rattle.std.specs.Prelude.{◌≡◌, ℕ, Bool, cond, List, [], ◌∷◌, ◌++◌, codes, bytes_eq, Option, Some, None, Result, Ok, Err}
+use Rattle.std.specs.Prelude.{◌≡◌, ℕ, cond, List, [], ◌∷◌, ◌++◌, codes, bytes_eq, Option, Some, None, Result, Ok, Err}
 use Rattle.line_words.specs.Lines.{Item, HasWords}
 use Rattle.line_words.specs.Placed.{Placed}
 use Rattle.entry_tree.specs.AtomText.{words_of, IsAtom, GoesWrong}
 use Rattle.entry_tree.specs.declared.atom.Atom.{Atom}
-use Rattle.entry_tree.specs.declared.atom.Atom.TheVariants as atoms
 use Rattle.entry_tree.specs.declared.atom_kind.AtomKind.{AtomKind}
 use Rattle.entry_tree.specs.declared.atom_kind.AtomKind.TheVariants.{Dir, File, Link, Untracked, Problem}
 use Rattle.entry_tree.specs.declared.atom_error.AtomError.{AtomError}

@@ -33,11 +33,7 @@ pub fn read_atom(alloc: Global, text: &str) -> Result<Atom, AtomError>
 ///
 /// Other words are bad at the first byte of the first one that no atom goes on with, or at `end` where they end early. How many
 /// of the words are left then is open. Cost: the length of what is left of the line.
-pub fn read_atom_words(
-    alloc: Global,
-    words: &mut Words<'_>,
-    end: usize,
-) -> Result<Atom, AtomError>
+pub fn read_atom_words(alloc: Global, words: &mut Words<'_>, end: usize) -> Result<Atom, AtomError>
     ensures value { IfOk result (λ atom. IsAtom atom × HasWords words.old (words_of atom)) }
     ensures refused { (place : ℕ) → result ≡ Err (Bad (record { place = place })) → IsBadAtom words.old end place }
 {
@@ -168,12 +164,7 @@ fn read_problem(alloc: Global, words: &mut Words<'_>, end: usize) -> Result<Atom
 }
 
 // The atom, if the line ends here: with no word more does an atom go on.
-fn read_end(
-    alloc: Global,
-    words: &mut Words<'_>,
-    end: usize,
-    atom: Atom,
-) -> Result<Atom, AtomError>
+fn read_end(alloc: Global, words: &mut Words<'_>, end: usize, atom: Atom) -> Result<Atom, AtomError>
     requires atom { IsAtom atom }
     requires whole { (word : List ℕ) → BeginsAtom (words_of atom ++ word ∷ []) → ⊥ }
     ensures { Answers (words_of atom) words.old end result }

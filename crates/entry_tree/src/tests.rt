@@ -1,6 +1,6 @@
 use crate::{
-    Atom, AtomError, Digest, PieceHasher, ProblemKind, Text, TextError, read_atom, read_path, text_of,
-    write_path,
+    Atom, AtomError, Digest, PieceHasher, ProblemKind, Text, TextError, read_atom, read_path,
+    text_of, write_path,
 };
 use std::alloc::{AllocError, Global};
 use std::test::Fail;
@@ -60,7 +60,10 @@ fn atoms_are_spelt(rt: HostRuntime) -> Result<(), Fail> {
             Atom::File(Digest::of(b""), false),
             "file e3b0c44298fc1c149afbf4c8996fb92427ae41e4649b934ca495991b7852b855",
         ),
-        (Atom::Link(Text::read(alloc, "../a b/é%")?), "link =../a%20b/%C3%A9%25"),
+        (
+            Atom::Link(Text::read(alloc, "../a b/é%")?),
+            "link =../a%20b/%C3%A9%25",
+        ),
         (Atom::Untracked, "untracked"),
         (Atom::Problem(ProblemKind::Changed), "problem 1"),
         (Atom::Problem(ProblemKind::TooLarge), "problem 2"),

@@ -1,4 +1,4 @@
-use Rattle.std.proofs.Common.{◌≡◌, subst}
+use Rattle.std.proofs.Common.{subst}
 use Rattle.std.specs.Str.{IsUtf8}
 use Rattle.entry_tree.proofs.PathWords.{path_word_is_utf8}
 use Rattle.entry_tree.proofs.path_word.read_path.Goals as goal

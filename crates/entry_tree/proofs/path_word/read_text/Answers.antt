@@ -1,6 +1,5 @@
-use Rattle.std.proofs.Common.{◌≡◌, sym, ap, ◌∙◌, Err}
+use Rattle.std.proofs.Common.{sym, ap, ◌∙◌, Err}
 use Rattle.sync_path.specs.PathText.{IsBadPlace}
-use Rattle.sync_path.specs.declared.path_error.PathError.TheVariants.{Bad}
 use Rattle.sync_path.proofs.Texts.{path_from_text, path_has_no_bad}
 use Rattle.entry_tree.proofs.path_word.read_text.Goals as goal
 

@@ -1,4 +1,4 @@
-use Rattle.std.proofs.Common.{◌≡◌, ◌∙◌, ◌∷◌, ◌++◌, [], ap, sym, lit<, string_bytes}
+use Rattle.std.proofs.Common.{◌∙◌, ◌∷◌, ◌++◌, ap, sym, lit<, string_bytes}
 use Rattle.line_words.specs.Spelling.{escaped}
 use Rattle.entry_tree.proofs.PathWords.{first_name, next_name}
 use Rattle.entry_tree.proofs.path_word.write_path.Goals as goal

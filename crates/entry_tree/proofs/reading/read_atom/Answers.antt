@@ -1,7 +1,5 @@
-use Rattle.std.proofs.Common.{rules, ◌≡◌, ◌∙◌, ℕ, List, [], ◌∷◌, ◌++◌, codes, bytes_eq, sym, ap, subst, true, false, Some, None, Ok, Err, refl}
-use Rattle.entry_tree.specs.AtomReading.{Answers, kind_of_word, word_of_kind}
-use Rattle.entry_tree.specs.AtomText.{BeginsAtom, words_of, is_link_text}
-use Rattle.entry_tree.proofs.Atoms.{failed, ended, stopped, onward}
+use Rattle.std.proofs.Common.{◌∙◌, ap, subst}
+use Rattle.entry_tree.specs.AtomText.{words_of}
 use Rattle.std.proofs.lemmas.Result.{IfOk-weaker}
 use Rattle.line_words.specs.Lines.{HasWords, line_items}
 use Rattle.line_words.specs.declared.reading.Reading.TheVariants.{Canonical}

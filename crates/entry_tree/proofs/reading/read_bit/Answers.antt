@@ -1,7 +1,6 @@
-use Rattle.std.proofs.Common.{rules, ◌≡◌, ◌∙◌, ℕ, List, [], ◌∷◌, ◌++◌, codes, bytes_eq, sym, ap, subst, true, false, Some, None, Ok, Err, refl}
-use Rattle.entry_tree.specs.AtomReading.{Answers, kind_of_word, word_of_kind}
-use Rattle.entry_tree.specs.AtomText.{BeginsAtom, words_of, is_link_text}
-use Rattle.entry_tree.proofs.Atoms.{failed, ended, stopped, onward}
+use Rattle.std.proofs.Common.{rules, ◌≡◌, [], ◌∷◌, codes, bytes_eq, subst, false, Some}
+use Rattle.entry_tree.specs.AtomReading.{Answers}
+use Rattle.entry_tree.proofs.Atoms.{failed, stopped, onward}
 use Rattle.hex.specs.Hex.{encode_lower}
 use Rattle.entry_tree.proofs.Atoms.{whole_executable, digest_begins, bad_bit}
 use Rattle.entry_tree.proofs.reading.read_bit.Goals as goal

@@ -1,7 +1,6 @@
-use Rattle.std.proofs.Common.{rules, ◌≡◌, ◌∙◌, ℕ, List, [], ◌∷◌, ◌++◌, codes, bytes_eq, sym, ap, subst, true, false, Some, None, Ok, Err, refl}
-use Rattle.entry_tree.specs.AtomReading.{Answers, kind_of_word, word_of_kind}
-use Rattle.entry_tree.specs.AtomText.{BeginsAtom, words_of, is_link_text}
-use Rattle.entry_tree.proofs.Atoms.{failed, ended, stopped, onward}
+use Rattle.std.proofs.Common.{rules, ◌≡◌, ◌∷◌, Some}
+use Rattle.entry_tree.specs.AtomText.{words_of}
+use Rattle.entry_tree.proofs.Atoms.{failed, stopped}
 use Rattle.entry_tree.proofs.Atoms.{words_begin}
 use Rattle.entry_tree.proofs.reading.read_end.Goals as goal
 

@@ -1,6 +1,5 @@
-use Rattle.std.proofs.Common.{rules, ◌≡◌, ◌∙◌, ℕ, List, [], ◌∷◌, ◌++◌, codes, bytes_eq, sym, ap, subst, true, false, Some, None, Ok, Err, refl}
-use Rattle.entry_tree.specs.AtomReading.{Answers, kind_of_word, word_of_kind}
-use Rattle.entry_tree.specs.AtomText.{BeginsAtom, words_of, is_link_text}
+use Rattle.std.proofs.Common.{rules, ◌≡◌, [], ◌∷◌, subst, Some, None}
+use Rattle.entry_tree.specs.AtomReading.{Answers, kind_of_word}
 use Rattle.entry_tree.proofs.Atoms.{failed, ended, stopped, onward}
 use Rattle.entry_tree.proofs.Atoms.{nothing_begins, nothing_is_none, no_kind, word_is}
 use Rattle.entry_tree.proofs.reading.read_kind.Goals as goal

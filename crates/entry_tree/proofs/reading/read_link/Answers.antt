@@ -1,6 +1,6 @@
-use Rattle.std.proofs.Common.{rules, ◌≡◌, ◌∙◌, ℕ, List, [], ◌∷◌, ◌++◌, codes, bytes_eq, sym, ap, subst, true, false, Some, None, Ok, Err, refl}
-use Rattle.entry_tree.specs.AtomReading.{Answers, kind_of_word, word_of_kind}
-use Rattle.entry_tree.specs.AtomText.{BeginsAtom, words_of, is_link_text}
+use Rattle.std.proofs.Common.{rules, ◌≡◌, ◌∙◌, [], ◌∷◌, codes, sym, subst, false, Some}
+use Rattle.entry_tree.specs.AtomReading.{Answers}
+use Rattle.entry_tree.specs.AtomText.{is_link_text}
 use Rattle.entry_tree.proofs.Atoms.{failed, ended, stopped, onward}
 use Rattle.entry_tree.proofs.Atoms.{whole_link, link_begins, link_is_none, bad_text}
 use Rattle.entry_tree.proofs.reading.read_link.Goals as goal

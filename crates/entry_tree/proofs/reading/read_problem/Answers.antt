@@ -1,7 +1,5 @@
-use Rattle.std.proofs.Common.{rules, ◌≡◌, ◌∙◌, ℕ, List, [], ◌∷◌, ◌++◌, codes, bytes_eq, sym, ap, subst, true, false, Some, None, Ok, Err, refl}
-use Rattle.line_words.specs.Lines.{Item}
-use Rattle.entry_tree.specs.AtomReading.{Answers, kind_of_word, word_of_kind}
-use Rattle.entry_tree.specs.AtomText.{BeginsAtom, words_of, NoneGoesOn, is_link_text}
+use Rattle.std.proofs.Common.{rules, ◌≡◌, [], ◌∷◌, codes, subst, false, Some}
+use Rattle.entry_tree.specs.AtomReading.{Answers}
 use Rattle.entry_tree.proofs.Atoms.{failed, ended, stopped, onward}
 use Rattle.std.specs.Fmt.{decimal}
 use Rattle.entry_tree.specs.ProblemKind.{problem_number, is_problem_text}

@@ -1,4 +1,4 @@
-use Rattle.std.proofs.Common.{◌≡◌, Ok, sym, ◌∙◌, rules}
+use Rattle.std.proofs.Common.{◌≡◌, Ok, rules}
 use Rattle.hex.specs.Hex.{decode_sized}
 use Rattle.entry_tree.specs.Digest.{IsDigest}
 use Rattle.entry_tree.proofs.Atoms.{are_bytes}
