@@ -1,6 +1,6 @@
 -- Laws of bytes that others are written over, and of what a crash may leave of them.
 use Rattle.std.proofs.Common.{◌≡◌, ℕ, zero, suc, ◌+◌, ◌-◌, ◌<◌, ◌≤◌, min, max, List, [], ◌∷◌, ◌++◌, length, take, drop, replicate, refl, sym, ap, ◌∙◌, append_assoc, arith}
-use Rattle.std.proofs.lemmas.List.{length-append, length-take, length-drop, length-replicate, take_at, take_min, drop-drop, take_all}
+use Rattle.std.proofs.lemmas.List.{length-append, length-take, length-drop, length-replicate, take_at, take_min, drop-drop}
 use Rattle.std.proofs.Math.Seq.{drop-append-add}
 use Rattle.disk_model.specs.Content.{TornWrite, TornCut, written_over}
 
@@ -71,6 +71,3 @@ written_tears old place count (b ∷ bytes) within =
 -- the same of a cut
 pub cut_tears : (n : ℕ) (old : List ℕ) → TornCut n old (take n old)
 cut_tears n old = record { front = ap (λ k. take k old) (length-take n old) ∙ take_min n old; no_shorter = omega (arith, length-take n old) }
-
-pub uncut_tears : (n : ℕ) (old : List ℕ) → TornCut n old old
-uncut_tears n old = record { front = take_all (length old) old (omega arith); no_shorter = omega arith }

@@ -1,9 +1,8 @@
 -- A file opens with one list of payloads, or it has one bad frame.
-use Rattle.std.proofs.Common.{◌≡◌, ◌≢◌, ◌⊎◌, inl, inr, ⊎_elim, ℕ, zero, suc, ◌+◌, ◌<◌, ◌≤◌, List, [], ◌∷◌, ◌++◌, length, refl, sym, ap, ◌∙◌, subst, append_assoc, arith}
+use Rattle.std.proofs.Common.{◌≡◌, ◌≢◌, inl, inr, ℕ, suc, ◌≤◌, List, [], ◌∷◌, ◌++◌, length, refl, sym, ap, ◌∙◌, append_assoc, arith}
 use Rattle.std.proofs.lemmas.List.{length-append}
-use Rattle.std.specs.List.{flat_map, AllByRecursion}
-use Rattle.frame_journal.specs.Layout.{block, frame, frames, IsPayload, ArePayloads, EndsShut, OpensWith, IsBadFrame}
-use Rattle.frame_journal.proofs.Spelling.{length-frame, length-block, same_block}
+use Rattle.frame_journal.specs.Layout.{block, frame, frames, IsPayload, ArePayloads, EndsShut, OpensWith, BreaksBehind, IsBadFrame}
+use Rattle.frame_journal.proofs.Spelling.{length-block, same_block}
 
 heads : (x y : ℕ) (xs ys : List ℕ) → x ∷ xs ≡ y ∷ ys → x ≡ y
 heads x y xs ys e = cc
@@ -72,11 +71,14 @@ one_opening ps qs file (inr p) (inl q) = short_none ps file q.1 p ∙ sym q.0
 one_opening ps qs file (inr p) (inr q) = one_list ps qs p.gate q.gate p.rest q.rest p.fit q.fit p.shut q.shut (sym p.split ∙ q.split)
 
 -- a file that opens with payloads has no bad frame
+pub opens_or_breaks : (ps bs : List (List ℕ)) (file : List ℕ) → OpensWith ps file → BreaksBehind bs file → ⊥
+opens_or_breaks ps bs file (inl p) bad = absurd (omega (arith, p.1, bad.long))
+opens_or_breaks ps bs file (inr p) bad = shut_or_bad ps bs p.gate p.rest bad.rest p.fit bad.fit p.shut bad.not_whole (sym p.split ∙ bad.split)
+
 pub opens_or_bad : (ps : List (List ℕ)) (n : ℕ) (file : List ℕ) → OpensWith ps file → IsBadFrame n file → ⊥
-opens_or_bad ps n file (inl p) bad = absurd (omega (arith, p.1, bad.long))
-opens_or_bad ps n file (inr p) bad = shut_or_bad ps bad.before p.gate p.rest bad.rest p.fit bad.fit p.shut bad.not_whole (sym p.split ∙ bad.split)
+opens_or_bad ps n file opens bad = opens_or_breaks ps bad.0 file opens bad.2
 
 -- it has at most one
 pub one_bad_frame : (m n : ℕ) (file : List ℕ) → IsBadFrame m file → IsBadFrame n file → m ≡ n
 one_bad_frame m n file a b =
-    sym a.count ∙ one_bad a.before b.before a.rest b.rest a.fit b.fit a.not_whole b.not_whole (sym a.split ∙ b.split) ∙ b.count
+    sym a.1 ∙ one_bad a.0 b.0 a.2.rest b.2.rest a.2.fit b.2.fit a.2.not_whole b.2.not_whole (sym a.2.split ∙ b.2.split) ∙ b.1
