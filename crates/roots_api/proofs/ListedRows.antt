@@ -1,8 +1,7 @@
--- The rows of a folder rise, and each makes a path behind it.
-use Rattle.std.proofs.Common.{◌≡◌, ℕ, Bool, true, false, cond, not, ◌||◌, List, [], ◌∷◌, ◌++◌, refl, sym, ap, subst, ◌∙◌, Option, Some, None, Ordering, bytes_eq, arith}
+-- The rows of a folder rise, and each makes a path behind it, where a tree holds something only at paths.
+use Rattle.std.proofs.Common.{◌≡◌, ℕ, Bool, true, false, cond, not, ◌||◌, List, [], ◌∷◌, ◌++◌, refl, sym, ap, subst, ◌∙◌, Option, Some, None, Ordering, bytes_eq}
 use Rattle.std.proofs.Common.{map as list_map}
-use Rattle.std.specs.Prelude.{T, ◌&&◌, IsTrue, is_some, Result, Ok, Err, OnOk, OnErr}
-use Rattle.entry_tree.specs.declared.tree_error.TreeError.{TreeError}
+use Rattle.std.specs.Prelude.{T, ◌&&◌, IsTrue, is_some}
 use Rattle.std.specs.FinMap as map
 use Rattle.std.specs.FinMap.Entries.{below_all}
 use Rattle.std.specs.Cmp.{tied_itself}
@@ -20,11 +19,11 @@ use Rattle.entry_tree.specs.Tree.{Names, ByPath, name_below, child_row, children
 use Rattle.entry_tree.specs.declared.entry.Entry.{Entry}
 use Rattle.entry_tree.proofs.Paths.{name_is}
 use Rattle.entry_tree.proofs.Trees.{get-set, get-retain, tie_is}
-use Rattle.sync_path.proofs.Lengths.{follows_in_path}
+use Rattle.sync_path.proofs.Lengths.{follows_in_path, path_of_root}
 use Rattle.entry_tree.specs.declared.entry.Entry.TheVariants.{Dir as DirEntry}
 use Rattle.roots_api.specs.Answers.{AreRows}
 use Rattle.roots_api.specs.States.{new_root}
-use Rattle.mem_roots.specs.Paths.{HoldsPaths}
+use Rattle.roots_api.specs.Laws.{HoldsPaths}
 
 name_below_is : (k p : Names) (n : List ℕ) → name_below k p ≡ Some n → k ≡ p ++ n ∷ []
 name_below_is [] p n h = absurd (cc)
@@ -127,17 +126,9 @@ pub holds_without : (tree : ByPath Entry) (p : Names) → HoldsPaths tree → Ho
 holds_without tree p holds q h =
     holds q (some_of (not (is_under q p)) (map.get tree q) (ap (λ (o : Option Entry). is_some o) (sym (get-retain is_dir tree (λ r. not (is_under r p)) q)) ∙ h))
 
-root_path : IsPath []
-root_path = record { each_name = refl; depth = omega arith; len = omega arith }
-
 pub holds_new : HoldsPaths new_root.tree
 holds_new q h =
     elim (eq_by_cmp path_cmp q []) as (λ b. eq_by_cmp path_cmp q [] ≡ b → is_some (cond b (Some DirEntry) (map.get (map.empty {X = Entry} {R = path_cmp}) q)) ≡ true → IsPath q) [
-      | true ↦ λ e _. subst IsPath (sym (tie_is q [] e)) root_path
+      | true ↦ λ e _. subst IsPath (sym (tie_is q [] e)) path_of_root
       | false ↦ λ e g. absurd (let n : false ≡ true = ap (λ (o : Option Entry). is_some o) (sym (map.get-empty path_cmp q)) ∙ g in cc)
     ] refl (ap (λ (o : Option Entry). is_some o) (sym (map.get-insert path_cmp_total map.empty [] DirEntry q)) ∙ h)
-
--- a tree once something was set in it, or not
-pub holds_after : (r : Result Unit TreeError) (old new : ByPath Entry) (p : Names) (x : Entry) → OnOk r (new ≡ set_at is_dir old p x) → OnErr r (new ≡ old) → HoldsPaths old → IsPath p → HoldsPaths new
-holds_after (Ok y) old new p x ok err holds path = subst HoldsPaths (sym ok) (holds_set old p x holds path)
-holds_after (Err e) old new p x ok err holds path = subst HoldsPaths (sym err) holds
