@@ -26,7 +26,7 @@ use Rattle.entry_tree.proofs.Paths.{below_is, child_below, both_true}
 use Rattle.entry_tree.proofs.Trees.{parent-child, root_or_child}
 use Rattle.roots_api.specs.States.{RootState}
 use Rattle.roots_api.specs.Views.{atom_of}
-use Rattle.mem_roots.proofs.Views.{same_kind}
+use Rattle.root_laws.proofs.Viewing.{same_kind}
 
 first : (a b : Bool) → T (a && b) → T a
 first true b p = tt

@@ -25,7 +25,7 @@ use Rattle.roots_api.specs.Answers.{AreRows}
 use Rattle.roots_api.specs.States.{new_root}
 use Rattle.roots_api.specs.Laws.{HoldsPaths}
 
-name_below_is : (k p : Names) (n : List ℕ) → name_below k p ≡ Some n → k ≡ p ++ n ∷ []
+pub name_below_is : (k p : Names) (n : List ℕ) → name_below k p ≡ Some n → k ≡ p ++ n ∷ []
 name_below_is [] p n h = absurd (cc)
 name_below_is (x ∷ []) [] n h = let e : x ≡ n = cc in ap (λ (y : List ℕ). y ∷ []) e
 name_below_is (x ∷ y ∷ k) [] n h = absurd (cc)
@@ -41,7 +41,7 @@ then_equal Equal = refl
 then_equal Greater = refl
 
 -- children of one folder stand as their names do
-child_cmp : (p : Names) (n m : List ℕ) → path_cmp (p ++ n ∷ []) (p ++ m ∷ []) ≡ slice_cmp nat_cmp n m
+pub child_cmp : (p : Names) (n m : List ℕ) → path_cmp (p ++ n ∷ []) (p ++ m ∷ []) ≡ slice_cmp nat_cmp n m
 child_cmp [] n m = then_equal (slice_cmp nat_cmp n m)
 child_cmp (x ∷ p) n m =
     ap (λ r. ordering_then r (path_cmp (p ++ n ∷ []) (p ++ m ∷ []))) (tied_itself nat_list_cmp_total x) ∙ child_cmp p n m

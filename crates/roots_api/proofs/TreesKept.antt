@@ -81,7 +81,7 @@ done_spanned offset NotEmpty = refl
 done_spanned offset (Full room) = refl
 done_spanned offset Failed = refl
 
-done_legal : (s : RootState) (id : ℕ) (op : Op) (answer : Answer Span) → (answer ≡ Failed) ⊎ (answer ≡ logged op (answer_of s id op)) → is_done answer ≡ true → is_done (answer_of s id op) ≡ true
+pub done_legal : (s : RootState) (id : ℕ) (op : Op) (answer : Answer Span) → (answer ≡ Failed) ⊎ (answer ≡ logged op (answer_of s id op)) → is_done answer ≡ true → is_done (answer_of s id op) ≡ true
 done_legal s id op answer (inl e) h = absurd (let n : true ≡ false = sym h ∙ ap is_done e in cc)
 done_legal s id op answer (inr e) h = sym (done_spanned (offset_of op) (answer_of s id op)) ∙ sym (ap is_done e) ∙ h
 
