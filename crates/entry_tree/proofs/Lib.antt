@@ -9,3 +9,6 @@ pub mod Subtrees
 pub mod Trees
 pub mod Walks
 pub mod Digests
+pub mod Atoms
+pub mod AtomLaws
+pub mod PathWords

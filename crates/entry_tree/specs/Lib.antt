@@ -1,6 +1,9 @@
 pub mod Atom
+pub mod AtomText
+pub mod AtomReading
 pub mod Copying
 pub mod Digest
+pub mod PathWord
 pub mod PieceHasher
 pub mod Entry
 pub mod ProblemKind

@@ -2,6 +2,7 @@
 ghost use Rattle.std.specs.Prelude.{◌≡◌, ◌==◌, true, IfOk, IfSome, is_some, string_bytes};
 ghost use Rattle.entry_tree.specs.Digest.{IsDigest, is_digest_text};
 ghost use Rattle.hex.specs.Hex.{encode_lower};
+ghost use Rattle.line_words.specs.Lines.{AreBytes};
 ghost use Rattle.sha2.specs.Sha256.{sha256};
 
 use hex::FromHex;
@@ -42,6 +43,15 @@ impl Digest {
         Digest { bytes }
     }
 
+    /// The digest as 64 lower-case hexadecimal digits. It takes no memory.
+    pub fn digits(&self) -> [u8; 64]
+        ensures { result ≡ encode_lower self.now }
+    {
+        let mut digits = [0; 64];
+        let _ = hex::encode_to_slice(&self.bytes, &mut digits);
+        digits
+    }
+
     /// The digest as 64 lower-case hexadecimal digits, which `read` reads.
     pub fn write(&self, alloc: Global) -> Result<String, AllocError>
         ensures value { IfOk result (λ digits. string_bytes digits ≡ encode_lower self.now) }
@@ -51,19 +61,17 @@ impl Digest {
     }
 
     /// The digest that these 64 lower-case hexadecimal digits spell; none where the text is another.
-    pub fn read(digits: &str) -> Option<Digest>
+    pub fn read(digits: &[u8]) -> Option<Digest>
         ensures value { IfSome result (λ digest. encode_lower digest ≡ digits.now) }
+        ensures digest { IfSome result (λ digest. IsDigest digest × AreBytes digest) }
         ensures found { is_some result ≡ is_digest_text digits.now }
     {
         let Ok(bytes) = <[u8; 32] as FromHex>::from_hex(digits) else {
             return None;
         };
-        let mut spelt = [0; 64];
-        if hex::encode_to_slice(&bytes, &mut spelt).is_err() {
-            return None;
-        }
-        if spelt.as_slice() == digits.as_bytes() {
-            Some(Digest { bytes })
+        let digest = Digest { bytes };
+        if digest.digits().as_slice() == digits {
+            Some(digest)
         } else {
             None
         }

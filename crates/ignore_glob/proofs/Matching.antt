@@ -1,16 +1,14 @@
 -- Laws of matching, for any items and any wildcards.
-use Rattle.std.proofs.Common.{◌≡◌, ◌+◌, ◌≤◌, Bool, true, false, cond, List, [], ◌∷◌, ◌++◌, length, refl, sym, ap, subst, ◌∙◌, append_assoc, arith, length-append, true≢false}
+use Rattle.std.proofs.Common.{◌≡◌, ℕ, ◌+◌, ◌-◌, ◌<◌, ◌≤◌, Bool, true, false, cond, ◌||◌, List, [], ◌∷◌, ◌++◌, length, refl, sym, ap, ap₂, subst, take, drop, ◌∙◌, append_assoc, arith, length-append, true≢false}
 use Rattle.std.specs.Bool.{MatchBool}
+use Rattle.std.specs.List.{list_any}
+use Rattle.std.proofs.Math.Seq.{drop-append_seam}
+use Rattle.std.proofs.lemmas.Bool.{or_parts}
+use Rattle.std.proofs.lemmas.Bool.Decides.{when_true, when_false}
+use Rattle.std.proofs.lemmas.List.{take-append-drop}
+use Rattle.std.proofs.lemmas.List.Folds.{list_any-append}
 use Rattle.ignore_glob.specs.Matching.{Matches, MatchesSuffix}
 use Rattle.ignore_glob.specs.Stretch.{width, Along}
-
-at_true : (b : Bool) (P Q : Type 0) → b ≡ true → MatchBool b P Q → P
-at_true true P Q e h = h
-at_true false P Q e h = absurd (true≢false (sym e))
-
-at_false : (b : Bool) (P Q : Type 0) → b ≡ false → MatchBool b P Q → Q
-at_false true P Q e h = absurd (true≢false e)
-at_false false P Q e h = h
 
 to_true : (b : Bool) (P Q : Type 0) → b ≡ true → P → MatchBool b P Q
 to_true true P Q e h = h
@@ -35,13 +33,13 @@ longer_front (s ∷ short) rest (x ∷ long) back e le = longer_front short rest
 module _ {X P : Type 0} (is_run : P → Bool) (Fits : P → X → Type 0) where
   -- the cases of a pattern that begins with a run, and of one that begins with another wildcard
   pub from_run : (p : P) (ps : List P) (items : List X) → is_run p ≡ true → Matches is_run Fits items (p ∷ ps) → MatchesSuffix is_run Fits items ps
-  from_run p ps items e h = at_true (is_run p) _ _ e h
+  from_run p ps items e h = when_true _ _ e h
 
   pub to_run : (p : P) (ps : List P) (items : List X) → is_run p ≡ true → MatchesSuffix is_run Fits items ps → Matches is_run Fits items (p ∷ ps)
   to_run p ps items e h = to_true (is_run p) _ _ e h
 
   pub from_one : (p : P) (ps : List P) (items : List X) → is_run p ≡ false → Matches is_run Fits items (p ∷ ps) → (first : X) × (rest : List X) × (items ≡ first ∷ rest) × Fits p first × Matches is_run Fits rest ps
-  from_one p ps items e h = at_false (is_run p) _ _ e h
+  from_one p ps items e h = when_false _ _ e h
 
   pub to_one : (p : P) (ps : List P) (first : X) (rest : List X) → is_run p ≡ false → Fits p first → Matches is_run Fits rest ps → Matches is_run Fits (first ∷ rest) (p ∷ ps)
   to_one p ps first rest e fits h = to_false (is_run p) _ _ e (first, rest, refl, fits, h)
@@ -137,3 +135,39 @@ module _ {X P : Type 0} (is_run : P → Bool) (Fits : P → X → Type 0) where
 
   pub suffix_whole : (items : List X) (ps : List P) → Matches is_run Fits items ps → MatchesSuffix is_run Fits items ps
   suffix_whole items ps m = ([], items, refl, m)
+
+  -- ---- a pattern without a run
+
+  -- it stands for as many items as it has wildcards
+  single_length : (ps : List P) (items : List X) → list_any is_run ps ≡ false → Matches is_run Fits items ps → length items ≡ length ps
+  single_length [] items h m = ap length m
+  single_length (p ∷ ps) items h m =
+      let parts = or_parts (is_run p) (list_any is_run ps) h in
+      let one = from_one p ps items parts.0 m in
+      omega (arith, single_length ps one.1 parts.1 one.4, ap length one.2)
+
+  -- so it matches an end of the items just where it matches the end that has so many of them
+  pub end_on : (items : List X) (ps : List P) → list_any is_run ps ≡ false → MatchesSuffix is_run Fits items ps
+      → (length ps ≤ length items) × Matches is_run Fits (drop (length items - length ps) items) ps
+  end_on items ps h s =
+      let len : length s.1 ≡ length ps = single_length ps s.1 h s.3 in
+      let all : length items ≡ length s.0 + length s.1 = ap length s.2 ∙ length-append s.0 s.1 in
+      let at : length items - length ps ≡ length s.0 = omega arith in
+      let is : drop (length items - length ps) items ≡ s.1 = ap₂ drop at s.2 ∙ drop-append_seam s.0 s.1 in
+      (omega arith, subst (λ (l : List X). Matches is_run Fits l ps) (sym is) s.3)
+
+  pub end_back : (k : ℕ) (items : List X) (ps : List P) → Matches is_run Fits (drop k items) ps → MatchesSuffix is_run Fits items ps
+  end_back k items ps m = (take k items, drop k items, sym (take-append-drop k items), m)
+
+  or_second : (a b : Bool) → b ≡ true → (a || b) ≡ true
+  or_second true b e = refl
+  or_second false b e = e
+
+  -- a pattern that reaches a run has one, and is longer than what is behind it
+  pub along_run : (items : List X) (ps : List P) (rest : List X) (p : P) (left : List P) → Along is_run Fits items ps rest (p ∷ left) → is_run p ≡ true → list_any is_run ps ≡ true
+  along_run items ps rest p left a e =
+      ap (list_any is_run) a.pattern_is ∙ list_any-append is_run a.used (p ∷ left)
+      ∙ or_second (list_any is_run a.used) (list_any is_run (p ∷ left)) (ap (λ b. b || list_any is_run left) e)
+
+  pub along_longer : (items : List X) (ps : List P) (rest : List X) (p : P) (left : List P) → Along is_run Fits items ps rest (p ∷ left) → length left < length ps
+  along_longer items ps rest p left a = omega (arith, ap length a.pattern_is, length-append a.used (p ∷ left))

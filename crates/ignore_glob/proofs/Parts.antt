@@ -10,7 +10,8 @@ use Rattle.ignore_glob.specs.Reading.{IsFaultOf, PartsSoFar, CutsFirst}
 use Rattle.ignore_glob.specs.declared.piece.Piece.TheVariants as pieces
 use Rattle.ignore_glob.specs.declared.piece.Part.{Part}
 use Rattle.ignore_glob.specs.declared.piece.Part.TheVariants as parts
-use Rattle.ignore_glob.specs.Grammar.{slash, star, two_stars, IsPart, AreParts, ArePieces, cut, max_parts}
+use Rattle.ignore_glob.specs.declared.limits.TheConstants.{MAX_PARTS}
+use Rattle.ignore_glob.specs.Grammar.{slash, star, two_stars, IsPart, AreParts, ArePieces, cut}
 use Rattle.ignore_glob.specs.Faults.{IsPieceFault, IsTextFault, IsPartFault, IsMiddleFault, slashed}
 use Rattle.ignore_glob.proofs.Matching.{tails_same, nil_or_cons}
 use Rattle.ignore_glob.proofs.Pieces.{bytes_of_front, one_list, no_offence, one_offence}
@@ -124,16 +125,16 @@ same_middle_fault text i j e f =
     let same = same_faults 0 (length e.before) (length f.before) e.before f.before e.parts f.parts e.wrong f.wrong e.after f.after e.offset f.offset (omega arith) (omega arith) (sym e.cut_is ∙ f.cut_is) e.whole f.whole e.fault f.fault in
     e.place_is ∙ ap (λ (l : List (List ℕ)). length (slashed l) + e.offset) same.0 ∙ ap (λ (n : ℕ). length (slashed f.before) + n) same.1 ∙ sym f.place_is
 
-part_fault_is_no_part : (number : ℕ) (text : List ℕ) (place : ℕ) (p : Part) (after : ℕ) → IsPartFault number text place → IsPart text p → number + (1 + after) ≤ max_parts → ⊥
+part_fault_is_no_part : (number : ℕ) (text : List ℕ) (place : ℕ) (p : Part) (after : ℕ) → IsPartFault number text place → IsPart text p → number + (1 + after) ≤ MAX_PARTS → ⊥
 part_fault_is_no_part number text place p after (inl e) h le = omega (arith, e.0, le)
 part_fault_is_no_part number text place p after (inr e) h le = fault_is_no_part text place p e.1 h
 
-some_rest : (number : ℕ) (wrong : List ℕ) (after : List (List ℕ)) (rs : List Part) (place : ℕ) → IsPartFault number wrong place → AreParts (wrong ∷ after) rs → number + length rs ≤ max_parts → ⊥
+some_rest : (number : ℕ) (wrong : List ℕ) (after : List (List ℕ)) (rs : List Part) (place : ℕ) → IsPartFault number wrong place → AreParts (wrong ∷ after) rs → number + length rs ≤ MAX_PARTS → ⊥
 some_rest number wrong after [] place f h le = absurd h
 some_rest number wrong after (r ∷ rs) place f h le = part_fault_is_no_part number wrong place r (length rs) f h.0 (omega arith)
 
 -- what is all parts has no fault
-pub no_middle_fault : (text : List ℕ) (ps : List Part) (place : ℕ) → AreParts (cut text) ps → length ps ≤ max_parts → IsMiddleFault text place → ⊥
+pub no_middle_fault : (text : List ℕ) (ps : List Part) (place : ℕ) → AreParts (cut text) ps → length ps ≤ MAX_PARTS → IsMiddleFault text place → ⊥
 no_middle_fault text ps place h le f =
     let split = parts_front f.before (f.wrong ∷ f.after) ps (subst (λ (l : List (List ℕ)). AreParts l ps) f.cut_is h) in
     some_rest (length f.before) f.wrong f.after split.1 f.offset f.fault split.4
@@ -150,7 +151,7 @@ fault_within text (faults.At place) whole f = let le = bytes_of_front text f.fro
 fault_within text faults.Memory whole f = tt
 
 -- the text is too long, or the next text is no part
-pub one_too_many : (text left : List ℕ) (ps : List Part) (first : List ℕ) (after : List (List ℕ)) (place : ℕ) → PartsSoFar text left ps → cut left ≡ first ∷ after → length ps ≡ max_parts → place + length left ≡ length text → IsMiddleFault text place
+pub one_too_many : (text left : List ℕ) (ps : List Part) (first : List ℕ) (after : List (List ℕ)) (place : ℕ) → PartsSoFar text left ps → cut left ≡ first ∷ after → length ps ≡ MAX_PARTS → place + length left ≡ length text → IsMiddleFault text place
 one_too_many text left ps first after place so cuts full at = record {
   before = so.before;
   wrong = first;
@@ -163,7 +164,7 @@ one_too_many text left ps first after place so cuts full at = record {
   place_is = omega (arith, so.bytes, at);
 }
 
-pub next_is_wrong : (text left : List ℕ) (ps : List Part) (first : List ℕ) (after : List (List ℕ)) (place offset : ℕ) → PartsSoFar text left ps → cut left ≡ first ∷ after → length ps < max_parts → place + length left ≡ length text → IsTextFault first offset → IsMiddleFault text (place + offset)
+pub next_is_wrong : (text left : List ℕ) (ps : List Part) (first : List ℕ) (after : List (List ℕ)) (place offset : ℕ) → PartsSoFar text left ps → cut left ≡ first ∷ after → length ps < MAX_PARTS → place + length left ≡ length text → IsTextFault first offset → IsMiddleFault text (place + offset)
 next_is_wrong text left ps first after place offset so cuts room at fault = record {
   before = so.before;
   wrong = first;
@@ -176,7 +177,7 @@ next_is_wrong text left ps first after place offset so cuts room at fault = reco
   place_is = omega (arith, so.bytes, at);
 }
 
-pub next_is_part : (text left : List ℕ) (ps : List Part) (first behind : List ℕ) (p : Part) → PartsSoFar text left ps → cut left ≡ first ∷ cut behind → left ≡ first ++ slash ∷ behind → length ps < max_parts → IsPart first p → PartsSoFar text behind (ps ++ p ∷ [])
+pub next_is_part : (text left : List ℕ) (ps : List Part) (first behind : List ℕ) (p : Part) → PartsSoFar text left ps → cut left ≡ first ∷ cut behind → left ≡ first ++ slash ∷ behind → length ps < MAX_PARTS → IsPart first p → PartsSoFar text behind (ps ++ p ∷ [])
 next_is_part text left ps first behind p so cuts is room part = record {
   before = so.before ++ first ∷ [];
   cut_is = so.cut_is ∙ ap (λ (l : List (List ℕ)). so.before ++ l) cuts ∙ sym (append_assoc so.before (first ∷ []) (cut behind));
@@ -185,7 +186,7 @@ next_is_part text left ps first behind p so cuts is room part = record {
   few = omega (arith, length-append ps (p ∷ []), room);
 }
 
-pub last_is_part : (text left : List ℕ) (ps : List Part) (first : List ℕ) (p : Part) → PartsSoFar text left ps → cut left ≡ first ∷ [] → length ps < max_parts → IsPart first p → AreParts (cut text) (ps ++ p ∷ []) × (length (ps ++ p ∷ []) ≤ max_parts)
+pub last_is_part : (text left : List ℕ) (ps : List Part) (first : List ℕ) (p : Part) → PartsSoFar text left ps → cut left ≡ first ∷ [] → length ps < MAX_PARTS → IsPart first p → AreParts (cut text) (ps ++ p ∷ []) × (length (ps ++ p ∷ []) ≤ MAX_PARTS)
 last_is_part text left ps first p so cuts room part = (
   subst (λ (l : List (List ℕ)). AreParts l (ps ++ p ∷ [])) (sym (so.cut_is ∙ ap (λ (l : List (List ℕ)). so.before ++ l) cuts)) (parts-more so.before ps first p so.whole part),
   omega (arith, length-append ps (p ∷ []), room),

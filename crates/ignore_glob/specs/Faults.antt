@@ -1,10 +1,11 @@
 -- Where a text that is no pattern goes wrong: the first byte of the first offence.
-use Rattle.std.specs.Prelude.{◌≡◌, ◌≢◌, ℕ, ◌+◌, ◌-◌, ◌<◌, ◌^◌, min, ◌⊎◌, List, [], ◌∷◌, ◌++◌, length, IsTrue}
+use Rattle.std.specs.Prelude.{◌≡◌, ◌≢◌, ℕ, ◌+◌, ◌-◌, ◌<◌, min, ◌⊎◌, List, [], ◌∷◌, ◌++◌, length, IsTrue}
 use Rattle.std.specs.List.{flat_map}
 use Rattle.std.specs.Str.{chars, encode_utf8_all}
 use Rattle.ignore_glob.specs.declared.piece.Piece.{Piece}
 use Rattle.ignore_glob.specs.declared.piece.Part.{Part}
-use Rattle.ignore_glob.specs.Grammar.{slash, backslash, is_bracket, ArePieces, AreParts, max_parts, body, middle, cut}
+use Rattle.ignore_glob.specs.declared.limits.TheConstants.{MAX_PARTS, MAX_PLACE}
+use Rattle.ignore_glob.specs.Grammar.{slash, backslash, is_bracket, ArePieces, AreParts, body, middle, cut}
 
 -- what stands here in a part is no piece: a bracket that no `\` takes, or a `\` with nothing behind it
 -- (so it ends the text or stands before a `/`, at which parts are cut)
@@ -28,7 +29,7 @@ IsTextFault text place = ((text ≡ []) × (place ≡ 0)) ⊎ IsPieceFault text 
 
 -- behind so many parts this text goes wrong: it is the 65th, or it is no part
 abbrev pub IsPartFault : ℕ → List ℕ → ℕ → Type 0
-IsPartFault number text place = ((number ≡ max_parts) × (place ≡ 0)) ⊎ ((number < max_parts) × IsTextFault text place)
+IsPartFault number text place = ((number ≡ MAX_PARTS) × (place ≡ 0)) ⊎ ((number < MAX_PARTS) × IsTextFault text place)
 
 -- texts with a `/` behind each
 abbrev pub slashed : List (List ℕ) → List ℕ
@@ -53,4 +54,4 @@ IsFault text place = ((middle text ≡ []) × (place ≡ length text))
 
 -- a place as a u32: the last one stands for each from there on
 abbrev pub counted : ℕ → ℕ
-counted place = min place (2 ^ 32 - 1)
+counted place = min place MAX_PLACE

@@ -2,6 +2,7 @@
 use Rattle.std.specs.Prelude.{◌≡◌, ◌≢◌, ℕ, ◌≤◌, Bool, false, not, cond, ◌&&◌, ◌||◌, ◌==◌, ◌⊎◌, List, [], ◌∷◌, ◌++◌, length, IsTrue}
 use Rattle.std.specs.List.{slice_split}
 use Rattle.std.specs.Str.{chars}
+use Rattle.ignore_glob.specs.declared.limits.TheConstants.{MAX_PARTS}
 use Rattle.ignore_glob.specs.declared.piece.Piece.{Piece}
 use Rattle.ignore_glob.specs.declared.piece.Piece.TheVariants as pieces
 use Rattle.ignore_glob.specs.declared.piece.Part.{Part}
@@ -69,10 +70,6 @@ AreParts (text ∷ texts) (part ∷ more) = IsPart text part × AreParts texts m
 
 -- ---- the whole text
 
--- the greatest number of parts
-abbrev pub max_parts : ℕ
-max_parts = 64
-
 -- whether the bytes begin with this one, and what is behind it if they do
 abbrev pub begins_with : ℕ → List ℕ → Bool
 begins_with b [] = false
@@ -113,4 +110,4 @@ pub record IsPattern (text : List ℕ) (p : Meaning) : Type 0 where
   pub directories : p.directories ≡ ends_with slash (body text)
   pub some : middle text ≢ []
   pub parts : AreParts (cut (middle text)) p.parts
-  pub few : length p.parts ≤ max_parts
+  pub few : length p.parts ≤ MAX_PARTS

@@ -7,7 +7,8 @@ use Rattle.ignore_glob.specs.declared.piece.Piece.{Piece}
 use Rattle.ignore_glob.specs.declared.piece.Part.{Part}
 use Rattle.ignore_glob.specs.declared.fault.Fault.{Fault}
 use Rattle.ignore_glob.specs.declared.fault.Fault.TheVariants as faults
-use Rattle.ignore_glob.specs.Grammar.{IsPiece, ArePieces, IsPart, AreParts, cut, slash, max_parts}
+use Rattle.ignore_glob.specs.declared.limits.TheConstants.{MAX_PARTS}
+use Rattle.ignore_glob.specs.Grammar.{IsPiece, ArePieces, IsPart, AreParts, cut, slash}
 use Rattle.ignore_glob.specs.Faults.{IsPieceFault, IsTextFault, IsMiddleFault, slashed}
 
 -- the characters begin with this piece, and these are left
@@ -28,7 +29,7 @@ ReadsPart text (Ok part) = IsPart text part
 ReadsPart text (Err fault) = IsFaultOf (λ place. IsTextFault text place × (place ≤ length text)) fault
 
 abbrev pub ReadsParts : List ℕ → Result (Vec Part) Fault → Type 0
-ReadsParts text (Ok parts) = AreParts (cut text) parts.items × (length parts.items ≤ max_parts)
+ReadsParts text (Ok parts) = AreParts (cut text) parts.items × (length parts.items ≤ MAX_PARTS)
 ReadsParts text (Err fault) = IsFaultOf (λ place. IsMiddleFault text place × (place ≤ length text)) fault
 
 -- the texts so far are these parts, and these bytes are left to be cut
@@ -37,7 +38,7 @@ pub record PartsSoFar (text left : List ℕ) (parts : List Part) : Type 0 where
   pub cut_is : cut text ≡ before ++ cut left
   pub whole : AreParts before parts
   pub bytes : length text ≡ length (slashed before) + length left
-  pub few : length parts ≤ max_parts
+  pub few : length parts ≤ MAX_PARTS
 
 -- the first of the texts between the slashes, and what is behind the slash that ends it
 abbrev pub CutsFirst : List ℕ → List ℕ → Option (Bor (List ℕ)) → Type 0

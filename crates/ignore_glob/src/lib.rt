@@ -5,10 +5,13 @@
 //! `**` spans any names; any other part is a list of pieces, each for characters of one name.
 //! [`Pattern::read`] takes exactly these texts, and names the first byte at which another text goes wrong.
 //! [`Pattern::matches`] answers whether a path matches. It takes no memory, and no pattern is exponential.
+//!
+//! No call hands out a [`Part`], a [`Glob`] or a [`Piece`]. They are public since contracts say what a pattern means by them.
 #![tactic(auto)]
 
 mod fault;
-mod laws;
+pub mod laws;
+mod limits;
 mod part_match;
 mod path_match;
 mod pattern;
@@ -18,7 +21,7 @@ mod read_part;
 mod read_parts;
 mod text;
 
-pub use laws::{one_meaning, one_place, pattern_has_no_fault};
+pub use limits::{MAX_PARTS, MAX_PLACE};
 pub use pattern::Pattern;
 pub use pattern_error::{BadPattern, PatternError};
 pub use piece::{Glob, Part, Piece};

@@ -1,8 +1,9 @@
 //! Whether the pieces of a part match a name.
-ghost use Rattle.std.specs.Prelude.{◌≡◌, ◌↔◌, IsTrue};
+ghost use Rattle.std.specs.Prelude.{◌≡◌, ◌↔◌, IsTrue, drop, false, length};
+ghost use Rattle.std.specs.List.{list_any};
 ghost use Rattle.std.specs.Str.{chars};
 ghost use Rattle.ignore_glob.specs.Matching.{is_run, FitsChar, MatchesPieces, MatchesSuffix};
-ghost use Rattle.ignore_glob.specs.Stretch.{Stretches};
+ghost use Rattle.ignore_glob.specs.Stretch.{FindsStretch, Stretches};
 
 use crate::piece::Piece;
 use crate::text::split_char;
@@ -62,29 +63,88 @@ fn go_along<'a>(text: &'a str, pieces: &'a [Piece]) -> Stretch<'a>
     }
 }
 
+/// Goes along the text from the first place on from which the pieces reach their first run, or its end where they have none.
+///
+/// Where they reach a run, only what is behind it is still open: a match further on leaves less. So nothing is tried twice.
+fn find_stretch<'a>(text: &'a str, pieces: &'a [Piece]) -> Stretch<'a>
+    ensures { FindsStretch (chars text.now) pieces.now result }
+{
+    let mut text = text;
+    loop {
+        match go_along(text, pieces) {
+            Stretch::Whole => return Stretch::Whole,
+            Stretch::Run(rest, behind) => return Stretch::Run(rest, behind),
+            Stretch::Fails => match split_char(text) {
+                None => return Stretch::Fails,
+                Some((_, behind)) => text = behind,
+            },
+        }
+    }
+}
+
+/// Whether one of the pieces is a run.
+fn has_run(pieces: &[Piece]) -> bool
+    ensures { result ≡ list_any is_run pieces.now }
+{
+    pieces.iter().any(|piece| is_run(*piece))
+}
+
+/// How many characters the text has.
+fn count_chars(text: &str) -> usize
+    ensures { result ≡ length (chars text.now) }
+{
+    text.chars().count()
+}
+
+/// The text without its first characters, so many of them.
+fn skip_chars(text: &str, count: usize) -> &str
+    ensures { chars result.now ≡ drop count (chars text.now) }
+{
+    let mut rest = text;
+    for _ in 0..count {
+        match split_char(rest) {
+            Some((_, behind)) => rest = behind,
+            None => return rest,
+        }
+    }
+    rest
+}
+
+/// Whether pieces without a run match an end of the text, which has as many characters as there are pieces.
+fn matches_end(text: &str, pieces: &[Piece]) -> bool
+    requires { list_any is_run pieces.now ≡ false }
+    ensures { IsTrue result ↔ MatchesSuffix is_run FitsChar (chars text.now) pieces.now }
+{
+    let count = count_chars(text);
+    if count < pieces.len() {
+        return false;
+    }
+    match go_along(skip_chars(text, count - pieces.len()), pieces) {
+        Stretch::Whole => true,
+        Stretch::Fails => false,
+        Stretch::Run(_, _) => false,
+    }
+}
+
 /// Whether the pieces match some end of the text: what stands behind a run.
 ///
-/// Where they have a run themselves, only what is behind it is still open once the pieces before it match:
-/// a match further on leaves less. So nothing is tried twice, and the cost is at most the characters times
-/// the pieces.
+/// The pieces behind their last run are compared at the end of the text alone. Cost: at most the characters times the pieces.
 fn matches_suffix(text: &str, pieces: &[Piece]) -> bool
     ensures { IsTrue result ↔ MatchesSuffix is_run FitsChar (chars text.now) pieces.now }
 {
     let mut text = text;
     let mut pieces = pieces;
-    loop {
-        match go_along(text, pieces) {
+    while has_run(pieces) {
+        match find_stretch(text, pieces) {
             Stretch::Whole => return true,
+            Stretch::Fails => return false,
             Stretch::Run(rest, behind) => {
                 text = rest;
                 pieces = behind;
             }
-            Stretch::Fails => match split_char(text) {
-                None => return false,
-                Some((_, behind)) => text = behind,
-            },
         }
     }
+    matches_end(text, pieces)
 }
 
 /// Whether the pieces match the whole name. It takes no memory.

@@ -1,15 +1,13 @@
 //! Whether the parts of a pattern match the names of a path.
-ghost use Rattle.std.specs.Prelude.{◌≡◌, ◌↔◌, ◌≤◌, IsTrue, length, drop};
+ghost use Rattle.std.specs.Prelude.{◌≡◌, ◌↔◌, ◌≤◌, IsTrue, false, length, drop};
+ghost use Rattle.std.specs.List.{list_any};
 ghost use Rattle.std.specs.Str.{chars};
 ghost use Rattle.ignore_glob.specs.Matching.{is_span, FitsName, MatchesParts, MatchesSuffix};
-ghost use Rattle.ignore_glob.specs.Stretch.{Reaches, names_of};
+ghost use Rattle.ignore_glob.specs.Stretch.{FindsReach, Reaches, names_of};
 
 use crate::part_match::matches_name;
 use crate::piece::Part;
-use sync_path::Path;
-
-/// The greatest number of names of a path.
-const MAX_NAMES: usize = 64;
+use sync_path::{MAX_DEPTH, Path};
 
 /// How far parts go along names up to the first that spans.
 #[derive(Clone, Copy)]
@@ -66,11 +64,59 @@ fn go_along(names: &[&str], at: usize, parts: &[Part], from: usize) -> Reach
     }
 }
 
+/// Goes along the names from the first place on, `at` or behind it, from which the parts from `from` on reach the first that
+/// spans, or the last name where none does.
+///
+/// Where they reach one that spans, only what is behind it is still open: a match further on leaves fewer names.
+fn find_reach(names: &[&str], at: usize, parts: &[Part], from: usize) -> Reach
+    requires names_in { at ≤ length names.now }
+    requires parts_in { from ≤ length parts.now }
+    ensures { FindsReach (names_of names.now) at parts.now from result }
+{
+    let mut at = at;
+    loop {
+        match go_along(names, at, parts, from) {
+            Reach::Whole => return Reach::Whole,
+            Reach::Span(name, part) => return Reach::Span(name, part),
+            Reach::Fails => {
+                if at == names.len() {
+                    return Reach::Fails;
+                }
+                at += 1;
+            }
+        }
+    }
+}
+
+/// Whether one of the parts spans.
+fn has_span(parts: &[Part]) -> bool
+    ensures { result ≡ list_any is_span parts.now }
+{
+    parts.iter().any(is_span)
+}
+
+/// Whether the parts from `from` on, of which none spans, match an end of the names from `at` on, which has as many names.
+fn matches_end(names: &[&str], at: usize, parts: &[Part], from: usize) -> bool
+    requires names_in { at ≤ length names.now }
+    requires parts_in { from ≤ length parts.now }
+    requires single { list_any is_span (drop from parts.now) ≡ false }
+    ensures { IsTrue result ↔ MatchesSuffix is_span FitsName (drop at (names_of names.now)) (drop from parts.now) }
+{
+    let count = parts.len() - from;
+    if names.len() - at < count {
+        return false;
+    }
+    match go_along(names, names.len() - count, parts, from) {
+        Reach::Whole => true,
+        Reach::Fails => false,
+        Reach::Span(_, _) => false,
+    }
+}
+
 /// Whether the parts from `from` on match some end of the names from `at` on: what stands behind a part that
 /// spans.
 ///
-/// Where one of them spans itself, only what is behind it is still open once the parts before it match: a
-/// match further on leaves fewer names. So at most names times parts are matched.
+/// The parts behind the last that spans are compared with the last names alone. At most names times parts are matched.
 fn matches_suffix(names: &[&str], at: usize, parts: &[Part], from: usize) -> bool
     requires names_in { at ≤ length names.now }
     requires parts_in { from ≤ length parts.now }
@@ -78,21 +124,17 @@ fn matches_suffix(names: &[&str], at: usize, parts: &[Part], from: usize) -> boo
 {
     let mut at = at;
     let mut from = from;
-    loop {
-        match go_along(names, at, parts, from) {
+    while has_span(&parts[from..]) {
+        match find_reach(names, at, parts, from) {
             Reach::Whole => return true,
+            Reach::Fails => return false,
             Reach::Span(name, part) => {
                 at = name;
                 from = part;
             }
-            Reach::Fails => {
-                if at == names.len() {
-                    return false;
-                }
-                at += 1;
-            }
         }
     }
+    matches_end(names, at, parts, from)
 }
 
 /// Whether the parts match all these names.
@@ -112,7 +154,7 @@ fn matches_names(parts: &[Part], names: &[&str]) -> bool
 pub(crate) fn matches_path(parts: &[Part], path: &Path) -> bool
     ensures { IsTrue result ↔ MatchesParts path.now parts.now }
 {
-    let mut names: [&str; MAX_NAMES] = [""; MAX_NAMES];
+    let mut names: [&str; MAX_DEPTH] = [""; MAX_DEPTH];
     let mut count = 0;
     for name in path.names() {
         names[count] = name;

@@ -3,9 +3,11 @@ ghost use Rattle.std.specs.Prelude.{◌≡◌};
 ghost use Rattle.ignore_glob.specs.Faults.{counted};
 ghost use Rattle.ignore_glob.specs.declared.pattern_error.PatternError.TheVariants.{Bad};
 
+use crate::limits::MAX_PLACE;
+use std::alloc::AllocError;
 use thiserror::Error;
 
-/// Where a text goes wrong: the byte at which its first offence begins. A place past 2^32 - 1 is given as that.
+/// Where a text goes wrong: the byte at which its first offence begins. A place past 2^32 - 1 ([`MAX_PLACE`]) is given as that.
 #[derive(Clone, Copy, Debug, PartialEq, Eq)]
 pub struct BadPattern {
     pub place: u32,
@@ -28,7 +30,17 @@ impl PatternError {
         ensures { result ≡ Bad (record { place = counted place }) }
     {
         PatternError::Bad(BadPattern {
-            place: u32::try_from(place).unwrap_or(u32::MAX),
+            place: u32::try_from(place).unwrap_or(MAX_PLACE),
         })
+    }
+}
+
+impl From<AllocError> for PatternError {
+    ghost use Rattle.ignore_glob.specs.declared.pattern_error.PatternError.TheVariants.{Memory};
+
+    ghost from_gives = { λ _ e. e ≡ Memory };
+
+    fn from(_error: AllocError) -> PatternError {
+        PatternError::Memory
     }
 }

@@ -2,13 +2,11 @@
 ghost use Rattle.ignore_glob.specs.Reading.{ReadsParts};
 
 use crate::fault::Fault;
+use crate::limits::MAX_PARTS;
 use crate::piece::Part;
 use crate::read_part::read_part;
 use crate::text::cut_first;
 use std::alloc::Global;
-
-/// The greatest number of parts of a pattern.
-const MAX_PARTS: usize = 64;
 
 /// The parts of a text that is cut at each `/`.
 pub(crate) fn read_parts(alloc: Global, text: &str) -> Result<Vec<Part>, Fault>

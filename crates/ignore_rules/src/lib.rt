@@ -9,7 +9,7 @@ mod rules;
 mod vcs;
 
 pub use rule_error::{BadRule, RuleError};
-pub use rules::Rules;
+pub use rules::{MAX_RULES, Rules};
 
 #[cfg(test)]
 mod tests;

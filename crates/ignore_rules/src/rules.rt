@@ -13,6 +13,9 @@ use std::alloc::{AllocError, Global};
 use std::marker::Model;
 use sync_path::Path;
 
+/// The greatest number of texts that are read as rules.
+pub const MAX_RULES: usize = 256;
+
 /// A list of patterns, of which the last that matches decides. Contracts see the list of what they mean.
 #[derive(Debug, Drop)]
 pub struct Rules {
@@ -29,13 +32,13 @@ impl Model for Rules {
 }
 
 impl Rules {
-    /// Reads at most 256 texts, each as a pattern, in this order. With `vcs` the patterns `.git/`, `.svn/`,
+    /// Reads at most 256 texts ([`MAX_RULES`]), each as a pattern, in this order. With `vcs` the patterns `.git/`, `.svn/`,
     /// `.hg/`, `.bzr/` and `_darcs/` stand before them. The first text that is no pattern is refused, by its
     /// number and the place of its first offence.
     ///
     /// Cost: the length of the texts.
     pub fn read(alloc: Global, texts: &[String], vcs: bool) -> Result<Rules, RuleError>
-        requires { length texts.now ≤ 256 }
+        requires { length texts.now ≤ MAX_RULES }
 
         // What is read is what the texts mean, and a refusal has its number and its place.
         ensures reads { MatchResult result (AreRules vcs (map string_bytes texts.now)) (IsRefusal (map string_bytes texts.now)) }
@@ -86,7 +89,7 @@ fn copy_patterns(alloc: Global, patterns: &[Pattern]) -> Result<Vec<Pattern>, Al
 
 /// Reads rules.
 fn read_rules(alloc: Global, texts: &[String], vcs: bool) -> Result<Rules, RuleError>
-    requires { length texts.now ≤ 256 }
+    requires { length texts.now ≤ MAX_RULES }
     ensures { MatchResult result (AreRules vcs (map string_bytes texts.now)) (IsRefusal (map string_bytes texts.now)) }
 {
     let mut patterns = if vcs {

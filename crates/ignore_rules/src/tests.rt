@@ -1,4 +1,4 @@
-use crate::{BadRule, RuleError, Rules};
+use crate::{BadRule, MAX_RULES, RuleError, Rules};
 use std::alloc::{AllocError, Global};
 use std::test::Fail;
 use sync_path::Path;
@@ -20,7 +20,7 @@ fn ignores(alloc: Global, rules: &Rules, path: &str, is_dir: bool) -> Result<boo
 fn the_last_pattern_that_matches_decides(rt: HostRuntime) -> Result<(), Fail> {
     let alloc = rt.alloc();
     let texts = strings(alloc, &["*.o", "!keep.o", "/build/"])?;
-    assert!(rt; texts.len() <= 256);
+    assert!(rt; texts.len() <= MAX_RULES);
     let rules = Rules::read(alloc, &texts, false)?.copy(alloc)?;
     let cases = [
         ("x/a.o", false, true),
@@ -40,7 +40,7 @@ fn the_last_pattern_that_matches_decides(rt: HostRuntime) -> Result<(), Fail> {
 fn version_control_stands_before_the_texts(rt: HostRuntime) -> Result<(), Fail> {
     let alloc = rt.alloc();
     let texts = strings(alloc, &["!/.hg/"])?;
-    assert!(rt; texts.len() <= 256);
+    assert!(rt; texts.len() <= MAX_RULES);
     let rules = Rules::read(alloc, &texts, true)?;
     for path in ["a/.git", ".svn", "a/.hg", ".bzr", "_darcs"] {
         assert!(rt; ignores(alloc, &rules, path, true)?, "{path}");
@@ -54,7 +54,7 @@ fn version_control_stands_before_the_texts(rt: HostRuntime) -> Result<(), Fail> 
 fn the_first_bad_text_is_named(rt: HostRuntime) -> Result<(), Fail> {
     let alloc = rt.alloc();
     let texts = strings(alloc, &["a", "b//c", "{"])?;
-    assert!(rt; texts.len() <= 256);
+    assert!(rt; texts.len() <= MAX_RULES);
     match Rules::read(alloc, &texts, true) {
         Err(RuleError::Bad(bad)) => assert_eq!(rt; bad, BadRule { index: 1, place: 2 }),
         _ => assert!(rt; false),

@@ -15,10 +15,7 @@ fn folder_pattern(alloc: Global, text: &str) -> Result<Pattern, AllocError>
     match Pattern::read(alloc, text) {
         Ok(pattern) => Ok(pattern),
         Err(PatternError::Memory) => Err(AllocError),
-        Err(PatternError::Bad(_)) => {
-            prove!(false);
-            Err(AllocError)
-        }
+        Err(PatternError::Bad(_)) => unreachable!(),
     }
 }
 

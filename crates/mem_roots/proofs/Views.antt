@@ -67,9 +67,9 @@ module _ {X : Type 0} (is_folder : X → Bool) (tree : ByPath X) (closed : IsClo
       root_below [] h = cc
       root_below (y ∷ p) h = cc
 
-same_kind : (ledger : List (List ℕ)) (e : Entry) → atom.is_dir (atom_of ledger e) ≡ is_dir e
+pub same_kind : (ledger : List (List ℕ)) (e : Entry) → atom.is_dir (atom_of ledger e) ≡ is_dir e
 same_kind ledger Dir = refl
-same_kind ledger (File stamp) = refl
+same_kind ledger (File stamp exec) = refl
 same_kind ledger (Link text) = refl
 same_kind ledger Other = refl
 
