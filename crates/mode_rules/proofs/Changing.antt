@@ -9,7 +9,6 @@ use Rattle.entry_tree.specs.Subtree.{subtree}
 use Rattle.entry_tree.specs.Tree.{Names, ByPath, IsClosed}
 use Rattle.entry_tree.specs.declared.atom.Atom.{Atom}
 use Rattle.entry_tree.specs.declared.atom.Atom.TheVariants.{Dir, File, Link, Untracked, Problem}
-use Rattle.entry_tree.specs.declared.side.Side.TheVariants.{Alpha, Beta}
 use Rattle.entry_tree.proofs.Maps.{alike}
 use Rattle.entry_tree.proofs.Paths.{path_same, under_itself}
 use Rattle.mode_rules.specs.declared.change.Change.{Change}

@@ -11,7 +11,7 @@ use Rattle.std.proofs.lemmas.Cmp.{tied_itself}
 use Rattle.finite_maps.proofs.SortedLists.{sorted-from_is_sorted}
 use Rattle.sync_path.specs.Path.{path_cmp, is_under, is_below}
 use Rattle.sync_path.specs.PathOrder.{path_cmp_total}
-use Rattle.entry_tree.specs.Tree.{Names, ByPath, IsClosed}
+use Rattle.entry_tree.specs.Tree.{Names}
 use Rattle.entry_tree.specs.declared.atom.Atom.{Atom}
 use Rattle.entry_tree.proofs.Trees.{tie_is}
 use Rattle.mode_rules.specs.declared.mode.Mode.{Mode}

@@ -1,8 +1,7 @@
 -- How the paths of a plan lie to one another.
-use Rattle.std.proofs.Common.{◌≡◌, Bool, true, false, cond, List, refl, sym, ap, ◌∙◌, Option, Some, None}
+use Rattle.std.proofs.Common.{◌≡◌, Bool, true, false, cond, refl, sym, ap, ◌∙◌, Option, Some, None}
 use Rattle.std.specs.FinMap as trees
 use Rattle.std.specs.Option.{is_some, option_map}
-use Rattle.std.specs.Ordering.{is_lt}
 use Rattle.std.specs.declared.cmp.Ordering.TheVariants.{Less, Equal}
 use Rattle.std.proofs.lemmas.Bool.{and_parts, false_from_ne_true}
 use Rattle.std.proofs.lemmas.Cmp.{tied_itself}
@@ -19,7 +18,7 @@ use Rattle.mode_rules.specs.declared.conflict.Conflict.{Conflict}
 use Rattle.mode_rules.specs.declared.mode.Mode.{Mode}
 use Rattle.mode_rules.specs.declared.verdict.Verdict.{Verdict}
 use Rattle.mode_rules.specs.declared.verdict.Verdict.TheVariants as verdicts
-use Rattle.mode_rules.specs.Plans.{change_at, change_by, line_at, line_of, dropped, taken, conflict_at, conflict_by, plan_of}
+use Rattle.mode_rules.specs.Plans.{change_at, change_by, line_at, line_of, conflict_at, conflict_by, plan_of}
 use Rattle.mode_rules.specs.PointLaws.{IsBefore, IsApart, IsClearOf, AreApart, line_path}
 use Rattle.mode_rules.specs.Trees.{Trees, paths_of, is_point, holds_folder, same_there}
 use Rattle.mode_rules.specs.Verdicts.{verdict}
@@ -157,18 +156,18 @@ module _ (mode : Mode) (t : Trees) where
     lines_rise = pairs_in (IsAmong t) (is_point t) (line_at mode t) _ (λ p q _ _ _ _ less l m e f. rise p q (line_path l) (line_path m) less (line_there p l e) (line_there q m f)) (paths_of t) (each_among t) (paths_sorted t);
     conflicts_rise = pairs_in (IsAmong t) (is_point t) (conflict_at mode t) _ (λ p q _ _ _ _ less c d e f. rise p q c.at d.at less (conflict_stop p c e).0 (conflict_stop q d f).0) (paths_of t) (each_among t) (paths_sorted t);
     changes_apart = pairs_in (IsAmong t) (is_point t) (change_at mode t) _ (λ p q has too point also less c d e f.
-      let x = change_stop p c e in let y = change_stop q d f in
-      apart p q c.at d.at x.0 y.0 (stops_apart p q has too point also x.1 y.1 (before_apart p q less))) (paths_of t) (each_among t) (paths_sorted t);
+        let x = change_stop p c e in let y = change_stop q d f in
+        apart p q c.at d.at x.0 y.0 (stops_apart p q has too point also x.1 y.1 (before_apart p q less))) (paths_of t) (each_among t) (paths_sorted t);
     conflicts_apart = pairs_in (IsAmong t) (is_point t) (conflict_at mode t) _ (λ p q has too point also less c d e f.
-      let x = conflict_stop p c e in let y = conflict_stop q d f in
-      apart p q c.at d.at x.0 y.0 (stops_apart p q has too point also x.1 y.1 (before_apart p q less))) (paths_of t) (each_among t) (paths_sorted t);
+        let x = conflict_stop p c e in let y = conflict_stop q d f in
+        apart p q c.at d.at x.0 y.0 (stops_apart p q has too point also x.1 y.1 (before_apart p q less))) (paths_of t) (each_among t) (paths_sorted t);
     both_apart = crosses_in (IsAmong t) (is_point t) (change_at mode t) (conflict_at mode t) _ (λ p q has too point also c f e h.
-      let x = change_stop p c e in let y = conflict_stop q f h in
-      apart p q c.at f.at x.0 y.0 (stops_apart p q has too point also x.1 y.1 (one_kind p q c f e h))) (paths_of t) (each_among t);
+        let x = change_stop p c e in let y = conflict_stop q f h in
+        apart p q c.at f.at x.0 y.0 (stops_apart p q has too point also x.1 y.1 (one_kind p q c f e h))) (paths_of t) (each_among t);
     lines_clear_changes = crosses_in (IsAmong t) (is_point t) (line_at mode t) (change_at mode t) _ (λ p q has too point also l c e h.
-      let y = change_stop q c h in clear q c.at l y.0 (clear_of p q has too point also l e y.1)) (paths_of t) (each_among t);
+        let y = change_stop q c h in clear q c.at l y.0 (clear_of p q has too point also l e y.1)) (paths_of t) (each_among t);
     lines_clear_conflicts = crosses_in (IsAmong t) (is_point t) (line_at mode t) (conflict_at mode t) _ (λ p q has too point also l f e h.
-      let y = conflict_stop q f h in clear q f.at l y.0 (clear_of p q has too point also l e y.1)) (paths_of t) (each_among t);
+        let y = conflict_stop q f h in clear q f.at l y.0 (clear_of p q has too point also l e y.1)) (paths_of t) (each_among t);
   }
     where
       rise : (p q x y : Names) → IsBefore p q → x ≡ p → y ≡ q → IsBefore x y
