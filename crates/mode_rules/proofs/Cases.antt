@@ -10,6 +10,7 @@ use Rattle.entry_tree.specs.declared.atom.Atom.TheVariants.{Dir, File, Link, Unt
 use Rattle.entry_tree.specs.declared.problem_kind.ProblemKind.{ProblemKind}
 use Rattle.entry_tree.specs.declared.problem_kind.ProblemKind.TheVariants.{Changed, TooLarge, Failed}
 use Rattle.mode_rules.specs.declared.mode.Mode.{Mode}
+use Rattle.mode_rules.specs.declared.mode.Mode.TheVariants.{TwoWaySafe, TwoWayResolved, OneWaySafe, OneWayReplica}
 use Rattle.mode_rules.specs.declared.comparing.Comparison.{Comparison}
 use Rattle.mode_rules.specs.declared.verdict.Verdict.{Verdict}
 use Rattle.mode_rules.specs.declared.verdict.Verdict.TheVariants as verdicts
@@ -104,7 +105,7 @@ by_case P mode a b sa sb blocked left gone agreed decided =
     neither false true e = absurd (cc)
     neither false false e = (refl, refl)
 
-folder_there : (x : Option Atom) → holds_folder x ≡ true → x ≡ Some Dir
+pub folder_there : (x : Option Atom) → holds_folder x ≡ true → x ≡ Some Dir
 folder_there None e = absurd (true≢false (sym e))
 folder_there (Some Dir) e = refl
 folder_there (Some (File digest executable)) e = absurd (true≢false (sym e))
@@ -145,3 +146,36 @@ one_holds (Some x) (Some y) o d e f =
     is_held : (z : Atom) → Some z ≡ compared (Some z) → (compared (Some z) ≡ None) ⊎ (compared (Some z) ≡ o) → compared (Some z) ≡ o
     is_held z is (inl none) = let no : Some z ≡ None = is ∙ none in absurd (cc)
     is_held z is (inr same) = same
+
+-- what the mode decides is one of six
+pub mode_case : (P : Verdict → Type 0) (mode : Mode) (h : Bool) (sa sb : Comparison)
+    → P verdicts.AlphaTakes → P verdicts.BetaTakes → P verdicts.AlphaEmptied → P verdicts.BetaEmptied → P verdicts.BetaKeeps → P verdicts.Both → P (by_mode mode h sa sb)
+mode_case P mode h sa sb at bt ae be keeps both = by mode sa.same sa.less sb.same sb.less h
+  where
+    by : (mode : Mode) (a al b bl h : Bool) → P (by_mode mode h (record { same = a; less = al }) (record { same = b; less = bl }))
+    by TwoWaySafe true al b bl h = at
+    by TwoWaySafe false al true bl h = bt
+    by TwoWaySafe false true false true true = ae
+    by TwoWaySafe false true false true false = be
+    by TwoWaySafe false true false false h = at
+    by TwoWaySafe false false false true h = bt
+    by TwoWaySafe false false false false h = both
+    by TwoWayResolved true al b bl h = at
+    by TwoWayResolved false al b bl h = bt
+    by OneWaySafe a al b true h = bt
+    by OneWaySafe a al b false true = both
+    by OneWaySafe a al b false false = keeps
+    by OneWayReplica a al b bl h = bt
+
+-- what both sides agree on is the same, and tracked
+pub agreed_is : (mode : Mode) (a b : Option Atom) (sa sb : Comparison) → first_case mode a b sa sb ≡ verdicts.Agreed → (a ≡ b) × (is_blocked a ≡ false)
+agreed_is mode a b sa sb =
+    cond_both (is_blocked a || is_blocked b) _ _ P
+    (λ stops. cond_both (holds_tracked a || holds_tracked b) verdicts.Blocked verdicts.Left P (λ _ e. absurd (cc)) (λ _ e. absurd (cc)))
+    (λ free. cond_both (not (is_some a) && not (is_some b)) verdicts.Gone _ P (λ _ e. absurd (cc))
+    (λ some. cond_both (same_there a b) verdicts.Agreed _ P
+    (λ same e. (same_is a b same, (or_parts (is_blocked a) (is_blocked b) free).0))
+    (λ differ. mode_case P mode (is_some a) sa sb (λ e. absurd (cc)) (λ e. absurd (cc)) (λ e. absurd (cc)) (λ e. absurd (cc)) (λ e. absurd (cc)) (λ e. absurd (cc)))))
+  where
+    P : Verdict → Type 0
+    P v = v ≡ verdicts.Agreed → (a ≡ b) × (is_blocked a ≡ false)

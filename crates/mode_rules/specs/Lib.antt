@@ -6,3 +6,6 @@ pub mod Placing
 pub mod Halts
 pub mod Sights
 pub mod Laws
+pub mod ChangeLaws
+pub mod PointLaws
+pub mod AgreedLaws
