@@ -1,3 +1,4 @@
+pub mod Counting
 pub mod LinesLemmas
 pub mod PiecesLemmas
 pub mod Ranges

@@ -9,8 +9,9 @@ use Rattle.outside_io.specs.declared.line.Line.{Line}
 use Rattle.outside_io.specs.declared.line.Line.TheVariants.{TooLong}
 use Rattle.outside_io.specs.Lines.{HasNoNewline, IsLine, TakesFirst, TakesNoLine}
 use Rattle.outside_io.specs.Taking.{CountsTaken, SkipsLine}
-use Rattle.outside_io.specs.Told.{WhereTold}
+use Rattle.finite_maps.specs.Told.{WhereTold}
 use Rattle.outside_io.proofs.LinesLemmas.{lines-newline, lines-last, at_newline, length-strip_carriage_return}
+use Rattle.outside_io.specs.declared.limits.TheConstants.{MOST_KEPT}
 
 -- what was taken behind what was held
 pub Consumes-held : (a b c : Option (List ℕ)) (held part : List ℕ) → Keeps a (prepend_known held b) → Consumes b c part → Consumes a c (held ++ part)
@@ -57,7 +58,7 @@ TakesFirst-newline Met (Some x) (Some y) line held now place answer begun within
     let split : x ≡ (line ++ front) ++ 10 ∷ (rest ++ y) = sym k ∙ ap (λ l. (line ++ l) ++ y) (at_newline held place within is) ∙ shape in
     ended_line Met x (line ++ front) (now ++ y) answer (split ∙ ap (λ l. (line ++ front) ++ 10 ∷ (l ++ y)) (sym e)) (All-append (λ (b : ℕ). b ≢ 10) line front begun none) ok
 
-skipped : (Met : Type 0) (x y z held now : List ℕ) → HasNoNewline held → 65537 < length held → held ++ y ≡ x → SkipsLine Met (Some y) now (Some z) → TakesFirst Met x (now ++ z) TooLong
+skipped : (Met : Type 0) (x y z held now : List ℕ) → HasNoNewline held → MOST_KEPT < length held → held ++ y ≡ x → SkipsLine Met (Some y) now (Some z) → TakesFirst Met x (now ++ z) TooLong
 skipped Met x y z held now none long k (front, clear, inl e) =
     let raw = held ++ front in
     let shape : held ++ ((front ++ 10 ∷ []) ++ (now ++ z)) ≡ (held ++ front) ++ 10 ∷ (now ++ z) = simp append_assoc in
@@ -69,7 +70,7 @@ skipped Met x y z held now none long k (front, clear, inr (e, end, nothing, met)
     last_line x (now ++ z) TooLong unbroken (omega (arith, length-append held front, len)) (ap (λ l. l ++ z) nothing ∙ end) (omega (arith, length-append held front, len)) met
 
 -- a line of which more was held than a line may have
-pub TakesFirst-skipped : (Met : Type 0) (a b c : Option (List ℕ)) (held after now : List ℕ) → HasNoNewline held → 65537 < length held → Keeps a (prepend_known held b) → SkipsLine Met b after c → now ≡ after
+pub TakesFirst-skipped : (Met : Type 0) (a b c : Option (List ℕ)) (held after now : List ℕ) → HasNoNewline held → MOST_KEPT < length held → Keeps a (prepend_known held b) → SkipsLine Met b after c → now ≡ after
     → WhereTold a (prepend_known now c) (λ old new. TakesFirst Met old new TooLong)
 TakesFirst-skipped Met None b c held after now none long k skip e = tt
 TakesFirst-skipped Met (Some x) None c held after now none long k skip e = absurd k

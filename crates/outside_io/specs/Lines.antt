@@ -5,6 +5,7 @@ use Rattle.std.specs.Io.KnownBytes.{Consumes}
 use Rattle.std.specs.Str.Lines.{lines}
 use Rattle.outside_io.specs.declared.line.Line.{Line}
 use Rattle.outside_io.specs.declared.line.Line.TheVariants.{Full, TooLong}
+use Rattle.outside_io.specs.declared.limits.TheConstants.{MOST_LINE_BYTES}
 
 -- no line ends within these bytes
 abbrev pub HasNoNewline : List ℕ → Type 0
@@ -20,8 +21,8 @@ IsWholeLines bytes = (bytes ≡ []) ⊎ EndsWithNewline bytes
 
 -- what is answered for a line of these bytes: all of them, or only that there are more than 65,536
 abbrev pub IsLine : List ℕ → Line → Type 0
-IsLine bytes (Full v) = (v.items ≡ bytes) × (length bytes ≤ 65536)
-IsLine bytes TooLong = 65536 < length bytes
+IsLine bytes (Full v) = (v.items ≡ bytes) × (length bytes ≤ MOST_LINE_BYTES)
+IsLine bytes TooLong = MOST_LINE_BYTES < length bytes
 
 -- From the bytes old their first line was taken, and new is what stands behind it. Met says that the end of the input
 -- was met.

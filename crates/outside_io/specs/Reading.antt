@@ -1,10 +1,11 @@
 -- What a reader of lines is seen as.
-use Rattle.std.specs.Prelude.{◌≡◌, ℕ, ◌≤◌, ◌^◌, List, Option, Some, None, Result, Ok, Err}
+use Rattle.std.specs.Prelude.{◌≡◌, ℕ, ◌≤◌, List, Option, Some, None, Result, Ok, Err}
 use Rattle.std.specs.Io.KnownBytes.{prepend_known}
 use Rattle.outside_io.specs.declared.line.Line.{Line}
 use Rattle.outside_io.specs.declared.line.LineFault.{LineFault}
 use Rattle.outside_io.specs.declared.line.LineFault.TheVariants.{ReadFault, SourceSpent, Memory}
 use Rattle.outside_io.specs.Lines.{HasNoNewline}
+use Rattle.outside_io.specs.declared.limits.TheConstants.{MOST_TAKEN}
 
 pub record ReaderState : Type 0 where
   -- the bytes that were taken from the source, and that no answer has given yet
@@ -31,8 +32,8 @@ stuck_after (Err fault) = lasting fault
 
 -- what holds of every reader
 pub record IsReader (held : List ℕ) (taken : ℕ) (stuck : Option LineFault) : Type 0 where
-  pub within : taken ≤ 2 ^ 30
+  pub within : taken ≤ MOST_TAKEN
   -- only a lasting fault is kept, and then no whole line is held
   pub lasts : (fault : LineFault) → stuck ≡ Some fault → lasting fault ≡ Some fault
   pub unbroken : (fault : LineFault) → stuck ≡ Some fault → HasNoNewline held
-  pub spent : stuck ≡ Some SourceSpent → taken ≡ 2 ^ 30
+  pub spent : stuck ≡ Some SourceSpent → taken ≡ MOST_TAKEN

@@ -2,7 +2,7 @@
 use Rattle.std.specs.Prelude.{◌≡◌, ℕ, ◌+◌, List, [], ◌∷◌, ◌++◌, ◌⊎◌, Option, length}
 use Rattle.std.specs.Io.KnownBytes.{Consumes, IsAtEnd, prepend_known}
 use Rattle.outside_io.specs.Lines.{HasNoNewline}
-use Rattle.outside_io.specs.Told.{WhereTold}
+use Rattle.finite_maps.specs.Told.{WhereTold}
 
 -- what a read buffer is seen as: the bytes that it holds, and for how many it has room
 pub record Buffered : Type 0 where

@@ -1,25 +1,19 @@
 // The line in hand, and the bytes behind it.
-ghost use Rattle.std.specs.Prelude.{◌≡◌, ℕ, ◌+◌, ◌^◌, ◌<◌, ◌≤◌, ◌↔◌, ◌⊎◌, List, [], ◌++◌, Option, length, take, drop, slice_index, vec_len, MatchResult, MatchOption, IfOk, IfSome, OnOk, OnErr, IsErrOf, Contains, None};
+ghost use Rattle.std.specs.Prelude.{◌≡◌, ℕ, ◌+◌, ◌<◌, ◌≤◌, ◌↔◌, ◌⊎◌, List, [], ◌++◌, Option, length, take, drop, slice_index, vec_len, MatchResult, MatchOption, IfOk, IfSome, OnOk, OnErr, IsErrOf, Contains, None};
 ghost use Rattle.std.specs.Io.KnownBytes.{Consumes, IsAtEnd, Keeps};
 ghost use Rattle.std.specs.Str.Lines.{strip_carriage_return};
 ghost use Rattle.fault_count.specs.Rose.{Rose};
 ghost use Rattle.outside_io.specs.Lines.{HasNoNewline, IsLine, TakesFirst, TakesNoLine};
 ghost use Rattle.outside_io.specs.Taking.{rest_of_taking, CountsTaken, SkipsLine};
-ghost use Rattle.outside_io.specs.Told.{WhereTold};
+ghost use Rattle.finite_maps.specs.Told.{WhereTold};
 
-use super::line::{Line, LineFault, MOST_LINE_BYTES};
+use super::limits::{MOST_KEPT, MOST_LINE_BYTES, MOST_TAKEN};
+use super::line::{Line, LineFault};
 use super::read_buffer::ReadBuffer;
 use super::source::Source;
 use std::alloc::{AllocError, Global};
 use std::marker::Model;
 use std::mem;
-
-/// How many bytes are ever taken from a source.
-pub const MOST_TAKEN: u64 = 1_073_741_824;
-
-// How many bytes of a line are kept: one more than a line may have, since a carriage return may
-// stand before its end.
-const MOST_KEPT: usize = MOST_LINE_BYTES + 1;
 
 const CARRIAGE_RETURN: u8 = 13;
 
@@ -32,15 +26,16 @@ pub struct Intake {
 }
 
 impl Model for Intake {
-    ghost use Rattle.std.specs.Prelude.{ℕ, ◌≤◌, ◌^◌, List, length};
+    ghost use Rattle.std.specs.Prelude.{ℕ, ◌≤◌, List, length};
     ghost use Rattle.outside_io.specs.Lines.{HasNoNewline};
+    ghost use Rattle.outside_io.specs.declared.limits.TheConstants.{MOST_KEPT, MOST_TAKEN};
     ghost use Rattle.outside_io.specs.Taking.{Taking};
 
     ghost Value = { Taking };
 
     ghost view = { λ i. record { line = i.line.items; held = i.buffer.held; room = i.buffer.room; taken = i.taken } };
 
-    ghost invariant = { λ i. HasNoNewline i.line.items × (length i.line.items ≤ 65537) × (i.taken ≤ 2 ^ 30) };
+    ghost invariant = { λ i. HasNoNewline i.line.items × (length i.line.items ≤ MOST_KEPT) × (i.taken ≤ MOST_TAKEN) };
 }
 
 impl Intake {
@@ -64,7 +59,7 @@ impl Intake {
         ensures line { self.new.line ≡ self.old.line }
         ensures held { self.new.held ≡ self.old.held }
         ensures taken { self.new.taken ≡ self.old.taken }
-        ensures within { self.new.taken ≤ 2 ^ 30 }
+        ensures within { self.new.taken ≤ MOST_TAKEN }
         ensures unbroken { HasNoNewline self.new.line }
     {
         self.buffer.prepare(alloc)
@@ -79,9 +74,9 @@ impl Intake {
         requires room { 0 < self.old.room }
         ensures line { IfOk result (λ answer. IfSome answer (λ line.
             WhereTold (rest_of_taking self.old (S.left source.old)) (rest_of_taking self.new (S.left source.new))
-            (λ old new. TakesFirst (self.new.taken < 2 ^ 30) old new line))) }
-        ensures met { result ≡ Ok None → self.new.taken < 2 ^ 30 }
-        ensures fault_before { IsErrOf result LineFault.ReadFault → self.new.taken < 2 ^ 30 }
+            (λ old new. TakesFirst (self.new.taken < MOST_TAKEN) old new line))) }
+        ensures met { result ≡ Ok None → self.new.taken < MOST_TAKEN }
+        ensures fault_before { IsErrOf result LineFault.ReadFault → self.new.taken < MOST_TAKEN }
         ensures end { result ≡ Ok None → (self.old.line ++ self.old.held ≡ []) × (self.new.held ≡ [])
             × IsAtEnd (S.left source.old) × IsAtEnd (S.left source.new) }
         ensures begun { OnOk result (self.new.line ≡ []) }
@@ -89,15 +84,15 @@ impl Intake {
             → Keeps (rest_of_taking self.old (S.left source.old)) (rest_of_taking self.new (S.left source.new)) }
         ensures no_line { IsErrOf result LineFault.ReadFault ⊎ IsErrOf result LineFault.SourceSpent
             → TakesNoLine (rest_of_taking self.old (S.left source.old)) (S.left source.new) × (self.new.held ≡ []) × HasNoNewline self.new.line }
-        ensures spent { IsErrOf result LineFault.SourceSpent → self.new.taken ≡ 2 ^ 30 }
-        ensures at_limit { self.old.taken ≡ 2 ^ 30 → HasNoNewline self.old.held
+        ensures spent { IsErrOf result LineFault.SourceSpent → self.new.taken ≡ MOST_TAKEN }
+        ensures at_limit { self.old.taken ≡ MOST_TAKEN → HasNoNewline self.old.held
             → IsErrOf result LineFault.SourceSpent ⊎ IsErrOf result LineFault.Memory }
         ensures unasked { Contains self.old.held 10 → source.new ≡ source.old }
         ensures counted { CountsTaken (S.left source.old) self.old.taken (S.left source.new) self.new.taken }
         ensures goes_on { OnOk result (length self.new.held + self.old.taken ≤ length (self.old.line ++ self.old.held) + self.new.taken) }
         ensures shorter { IfOk result (λ answer. IfSome answer (λ line.
             length self.new.held + self.old.taken < length (self.old.line ++ self.old.held) + self.new.taken)) }
-        ensures within { self.new.taken ≤ 2 ^ 30 }
+        ensures within { self.new.taken ≤ MOST_TAKEN }
         ensures counts { S.faults source.old ≤ S.faults source.new }
         ensures read_fault { IsErrOf result LineFault.ReadFault → Rose (S.faults source.old) (S.faults source.new) }
     {
@@ -125,7 +120,7 @@ impl Intake {
         ensures taken_off { OnOk result ((self.new.line ≡ []) × (self.new.held ≡ drop (place + 1) self.old.held)) }
         ensures err { OnErr result ((self.new.line ≡ self.old.line) × (self.new.held ≡ self.old.held)) }
         ensures room { self.new.room ≡ self.old.room }
-        ensures taken { (self.new.taken ≡ self.old.taken) × (self.new.taken ≤ 2 ^ 30) }
+        ensures taken { (self.new.taken ≡ self.old.taken) × (self.new.taken ≤ MOST_TAKEN) }
     {
         if place > MOST_KEPT - self.line.len() {
             self.line.clear();
@@ -146,7 +141,7 @@ impl Intake {
         ensures begun { self.new.line ≡ [] }
         ensures held { self.new.held ≡ self.old.held }
         ensures room { self.new.room ≡ self.old.room }
-        ensures taken { (self.new.taken ≡ self.old.taken) × (self.new.taken ≤ 2 ^ 30) }
+        ensures taken { (self.new.taken ≡ self.old.taken) × (self.new.taken ≤ MOST_TAKEN) }
     {
         let line = mem::replace(&mut self.line, Vec::new(alloc));
         if line.len() > MOST_LINE_BYTES {
@@ -161,7 +156,7 @@ impl Intake {
         ensures begun { self.new.line ≡ [] }
         ensures held { self.new.held ≡ self.old.held }
         ensures room { self.new.room ≡ self.old.room }
-        ensures taken { (self.new.taken ≡ self.old.taken) × (self.new.taken ≤ 2 ^ 30) }
+        ensures taken { (self.new.taken ≡ self.old.taken) × (self.new.taken ≤ MOST_TAKEN) }
     {
         if self.line.is_empty() {
             return None;
@@ -172,11 +167,11 @@ impl Intake {
     /// Adds the buffer's bytes to the line in hand.
     fn hold(&mut self) -> Result<(), AllocError>
         requires unbroken { HasNoNewline self.old.held }
-        requires fits { length self.old.line + length self.old.held ≤ 65537 }
+        requires fits { length self.old.line + length self.old.held ≤ MOST_KEPT }
         ensures ok { OnOk result ((self.new.line ≡ self.old.line ++ self.old.held) × (self.new.held ≡ [])) }
         ensures err { OnErr result ((self.new.line ≡ self.old.line) × (self.new.held ≡ self.old.held)) }
         ensures room { self.new.room ≡ self.old.room }
-        ensures taken { (self.new.taken ≡ self.old.taken) × (self.new.taken ≤ 2 ^ 30) }
+        ensures taken { (self.new.taken ≡ self.old.taken) × (self.new.taken ≤ MOST_TAKEN) }
     {
         self.line.extend_from_slice(self.buffer.bytes())?;
         self.buffer.clear();
@@ -194,12 +189,12 @@ impl Intake {
         ensures err { OnErr result ((self.new.held ≡ []) × (self.new.taken ≡ self.old.taken)) }
         ensures line { self.new.line ≡ self.old.line }
         ensures room { self.new.room ≡ self.old.room }
-        ensures within { self.new.taken ≤ 2 ^ 30 }
+        ensures within { self.new.taken ≤ MOST_TAKEN }
         ensures counts { S.faults source.old ≤ S.faults source.new }
         ensures read_fault { IsErrOf result LineFault.ReadFault → Rose (S.faults source.old) (S.faults source.new) }
-        ensures spent { IsErrOf result LineFault.SourceSpent ↔ (self.old.taken ≡ 2 ^ 30) }
-        ensures asked { OnOk result (self.old.taken < 2 ^ 30) }
-        ensures fault_before { IsErrOf result LineFault.ReadFault → self.new.taken < 2 ^ 30 }
+        ensures spent { IsErrOf result LineFault.SourceSpent ↔ (self.old.taken ≡ MOST_TAKEN) }
+        ensures asked { OnOk result (self.old.taken < MOST_TAKEN) }
+        ensures fault_before { IsErrOf result LineFault.ReadFault → self.new.taken < MOST_TAKEN }
         ensures counted { CountsTaken (S.left source.old) self.old.taken (S.left source.new) self.new.taken }
         ensures memory { ¬ IsErrOf result LineFault.Memory }
     {
@@ -220,18 +215,18 @@ impl Intake {
     /// Drops the line in hand and the buffer's bytes, and passes over the rest of the line.
     fn skip_line<S: Source>(&mut self, source: &mut S) -> Result<(), LineFault>
         requires { 0 < self.old.room }
-        ensures ok { OnOk result (SkipsLine (self.new.taken < 2 ^ 30) (S.left source.old) self.new.held (S.left source.new)) }
-        ensures fault_before { IsErrOf result LineFault.ReadFault → self.new.taken < 2 ^ 30 }
+        ensures ok { OnOk result (SkipsLine (self.new.taken < MOST_TAKEN) (S.left source.old) self.new.held (S.left source.new)) }
+        ensures fault_before { IsErrOf result LineFault.ReadFault → self.new.taken < MOST_TAKEN }
         ensures err { OnErr result (TakesNoLine (S.left source.old) (S.left source.new) × (self.new.held ≡ [])) }
         ensures line { self.new.line ≡ [] }
         ensures room { self.new.room ≡ self.old.room }
         ensures taken { length self.new.held + self.old.taken ≤ self.new.taken }
-        ensures within { self.new.taken ≤ 2 ^ 30 }
+        ensures within { self.new.taken ≤ MOST_TAKEN }
         ensures counts { S.faults source.old ≤ S.faults source.new }
         ensures read_fault { IsErrOf result LineFault.ReadFault → Rose (S.faults source.old) (S.faults source.new) }
         ensures memory { ¬ IsErrOf result LineFault.Memory }
-        ensures spent { IsErrOf result LineFault.SourceSpent → self.new.taken ≡ 2 ^ 30 }
-        ensures at_limit { self.old.taken ≡ 2 ^ 30 → IsErrOf result LineFault.SourceSpent }
+        ensures spent { IsErrOf result LineFault.SourceSpent → self.new.taken ≡ MOST_TAKEN }
+        ensures at_limit { self.old.taken ≡ MOST_TAKEN → IsErrOf result LineFault.SourceSpent }
         ensures counted { CountsTaken (S.left source.old) self.old.taken (S.left source.new) self.new.taken }
     {
         self.line.clear();

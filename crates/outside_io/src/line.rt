@@ -4,9 +4,6 @@ ghost use Rattle.outside_io.specs.declared.line.LineFault.TheVariants.{Memory};
 
 use std::alloc::AllocError;
 
-/// How many bytes a line may have, its end not counted.
-pub const MOST_LINE_BYTES: usize = 65_536;
-
 /// A line of the input, without what ended it.
 #[derive(Debug, PartialEq, Eq, Drop)]
 pub enum Line {

@@ -1,11 +1,11 @@
 // Lines from a source's bytes.
-ghost use Rattle.std.specs.Prelude.{◌≡◌, ℕ, ◌+◌, ◌-◌, ◌^◌, ◌<◌, ◌≤◌, ◌⊎◌, List, [], Option, length, Contains, IfOk, IfSome, IsErrOf, Some, None};
+ghost use Rattle.std.specs.Prelude.{◌≡◌, ℕ, ◌+◌, ◌-◌, ◌<◌, ◌≤◌, ◌⊎◌, List, [], Option, length, Contains, IfOk, IfSome, IsErrOf, Some, None};
 ghost use Rattle.std.specs.Io.KnownBytes.{IsAtEnd, Keeps};
 ghost use Rattle.fault_count.specs.Rose.{Rose};
 ghost use Rattle.outside_io.specs.Reading.{lasting};
 
 use super::intake::Intake;
-pub use super::intake::MOST_TAKEN;
+use super::limits::MOST_TAKEN;
 use super::line::{Line, LineFault};
 use super::source::Source;
 use std::alloc::Global;
@@ -42,7 +42,7 @@ impl LineReader {
     ghost use Rattle.outside_io.specs.Lines.{HasNoNewline, TakesFirst, TakesNoLine};
     ghost use Rattle.outside_io.specs.Reading.{rest_of, stuck_after};
     ghost use Rattle.outside_io.specs.Taking.{CountsTaken};
-    ghost use Rattle.outside_io.specs.Told.{WhereTold};
+    ghost use Rattle.finite_maps.specs.Told.{WhereTold};
 
     /// A reader that took nothing yet. It takes no memory.
     pub fn new(alloc: Global) -> LineReader
@@ -68,12 +68,12 @@ impl LineReader {
         // ended comes only where the end was met, which is before 2^30 bytes were taken.
         ensures line { IfOk result (λ answer. IfSome answer (λ line.
             WhereTold (rest_of self.old (S.left source.old)) (rest_of self.new (S.left source.new))
-            (λ old new. TakesFirst (self.new.taken < 2 ^ 30) old new line))) }
+            (λ old new. TakesFirst (self.new.taken < MOST_TAKEN) old new line))) }
 
         // There is no line only where nothing is left, and nothing is held.
         ensures end { result ≡ Ok None → (self.old.held ≡ []) × (self.new.held ≡ [])
             × IsAtEnd (S.left source.old) × IsAtEnd (S.left source.new) }
-        ensures met { result ≡ Ok None → self.new.taken < 2 ^ 30 }
+        ensures met { result ≡ Ok None → self.new.taken < MOST_TAKEN }
 
         // Want of memory loses nothing.
         ensures memory { IsErrOf result LineFault.Memory
@@ -82,7 +82,7 @@ impl LineReader {
         // A read fault has its cause: the source's count rose, unless the reader was stuck before.
         ensures read_fault { self.old.stuck ≡ None → IsErrOf result LineFault.ReadFault
             → Rose (S.faults source.old) (S.faults source.new) }
-        ensures fault_before { self.old.stuck ≡ None → IsErrOf result LineFault.ReadFault → self.new.taken < 2 ^ 30 }
+        ensures fault_before { self.old.stuck ≡ None → IsErrOf result LineFault.ReadFault → self.new.taken < MOST_TAKEN }
         ensures counts { S.faults source.old ≤ S.faults source.new }
         ensures stuck { self.new.stuck ≡ stuck_after result }
 
@@ -92,9 +92,9 @@ impl LineReader {
 
         // The source is spent only once 2^30 bytes were taken, and never more are. It is where no
         // whole line is held then; before that, memory may be wanting.
-        ensures spent { IsErrOf result LineFault.SourceSpent → self.new.taken ≡ 2 ^ 30 }
-        ensures within { self.new.taken ≤ 2 ^ 30 }
-        ensures at_limit { self.old.stuck ≡ None → self.old.taken ≡ 2 ^ 30 → HasNoNewline self.old.held
+        ensures spent { IsErrOf result LineFault.SourceSpent → self.new.taken ≡ MOST_TAKEN }
+        ensures within { self.new.taken ≤ MOST_TAKEN }
+        ensures at_limit { self.old.stuck ≡ None → self.old.taken ≡ MOST_TAKEN → HasNoNewline self.old.held
             → IsErrOf result LineFault.SourceSpent ⊎ IsErrOf result LineFault.Memory }
         ensures counted { CountsTaken (S.left source.old) self.old.taken (S.left source.new) self.new.taken }
 
@@ -107,7 +107,7 @@ impl LineReader {
 
         // A line brings the end nearer.
         ensures goes_on { IfOk result (λ answer. IfSome answer (λ line.
-            (2 ^ 30 - self.new.taken) + length self.new.held < (2 ^ 30 - self.old.taken) + length self.old.held)) }
+            (MOST_TAKEN - self.new.taken) + length self.new.held < (MOST_TAKEN - self.old.taken) + length self.old.held)) }
     {
         if let Some(fault) = self.stuck {
             return Err(fault);

@@ -1,10 +1,11 @@
 // A sink in memory.
-ghost use Rattle.std.specs.Prelude.{◌≡◌, ◌↔◌, ℕ, ◌+◌, ◌-◌, ◌^◌, ◌<◌, ◌≤◌, Some, List, [], ◌++◌, length, min, IfOk, OnOk, OnErr, IsErr};
+ghost use Rattle.std.specs.Prelude.{◌≡◌, ◌↔◌, ℕ, ◌+◌, ◌<◌, ◌≤◌, Some, List, [], ◌++◌, length, min, IfOk, OnOk, OnErr, IsErr};
 ghost use Rattle.std.specs.Io.KnownBytes.{WriteAppends};
 ghost use Rattle.fault_count.specs.Rose.{Rose};
 ghost use Rattle.outside_io.specs.Calls.{IsToFail, after_call};
 
 use super::calls::FailingCalls;
+use super::limits::MOST_COUNTED;
 use super::sink::Sink;
 use super::source::Failed;
 use fault_count::count_fault;
@@ -68,7 +69,7 @@ impl Sink for MemSink {
         // The calls that are to fail do.
         ensures fails { IsToFail self.old.calls → IsErr result }
         ensures called { self.new.calls ≡ after_call self.old.calls }
-        ensures fault { OnErr result (self.new.faults ≡ min (self.old.faults + 1) (2 ^ 64 - 1)) }
+        ensures fault { OnErr result (self.new.faults ≡ min (self.old.faults + 1) MOST_COUNTED) }
         ensures no_fault { OnOk result (self.new.faults ≡ self.old.faults) }
 
         // The others take the whole piece.

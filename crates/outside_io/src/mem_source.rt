@@ -1,5 +1,5 @@
 // A source in memory.
-ghost use Rattle.std.specs.Prelude.{◌≡◌, ◌↔◌, ℕ, ◌+◌, ◌-◌, ◌^◌, ◌<◌, ◌≤◌, Some, List, length, map, min, IfOk, OnOk, OnErr, IsErr};
+ghost use Rattle.std.specs.Prelude.{◌≡◌, ◌↔◌, ℕ, ◌+◌, ◌<◌, ◌≤◌, Some, List, length, map, min, IfOk, OnOk, OnErr, IsErr};
 ghost use Rattle.std.specs.List.{concat};
 ghost use Rattle.std.specs.Io.{ReadsAtMost};
 ghost use Rattle.std.specs.Io.KnownBytes.{ReadConsumes};
@@ -8,6 +8,7 @@ ghost use Rattle.outside_io.specs.Calls.{IsToFail, after_call};
 ghost use Rattle.outside_io.specs.MemInput.{HasNoEmpty, after_taking, first_piece};
 
 use super::calls::FailingCalls;
+use super::limits::MOST_COUNTED;
 use super::pieces::Pieces;
 use super::source::{Failed, Source};
 use fault_count::count_fault;
@@ -64,7 +65,7 @@ impl Source for MemSource {
         // Exactly the calls that are to fail do.
         ensures fails { IsErr result ↔ IsToFail self.old.calls }
         ensures called { self.new.calls ≡ after_call self.old.calls }
-        ensures fault { OnErr result (self.new.faults ≡ min (self.old.faults + 1) (2 ^ 64 - 1)) }
+        ensures fault { OnErr result (self.new.faults ≡ min (self.old.faults + 1) MOST_COUNTED) }
         ensures no_fault { OnOk result (self.new.faults ≡ self.old.faults) }
 
         // A read gives of the first piece what fits.

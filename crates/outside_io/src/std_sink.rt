@@ -1,6 +1,9 @@
 // A writer of std as a sink.
-ghost use Rattle.std.specs.Prelude.{◌≡◌, ℕ};
+ghost use Rattle.std.specs.Prelude.{◌≡◌, ◌+◌, ◌<◌, ◌≤◌, length, min, IfOk, OnErr, OnOk};
+ghost use Rattle.std.specs.Io.KnownBytes.{WriteAppends};
+ghost use Rattle.fault_count.specs.Rose.{Rose};
 
+use super::limits::MOST_COUNTED;
 use super::sink::Sink;
 use super::source::Failed;
 use fault_count::count_fault;
@@ -38,7 +41,18 @@ impl<T: Write> Sink for StdSink<T> {
 
     ghost faults = { λ s. s.faults };
 
-    fn write(&mut self, bytes: &[u8]) -> Result<usize, Failed> {
+    fn write(&mut self, bytes: &[u8]) -> Result<usize, Failed>
+        requires { 0 < length bytes.now }
+        ensures some { IfOk result (λ n. 0 < n) }
+        ensures bound { IfOk result (λ n. n ≤ length bytes.now) }
+        ensures bytes { WriteAppends (T.contents self.old.inner) (T.contents self.new.inner) result bytes.now }
+        ensures counts { self.old.faults ≤ self.new.faults }
+        ensures failed { OnErr result (Rose self.old.faults self.new.faults) }
+
+        // Just a call that failed is counted.
+        ensures fault { OnErr result (self.new.faults ≡ min (self.old.faults + 1) MOST_COUNTED) }
+        ensures no_fault { OnOk result (self.new.faults ≡ self.old.faults) }
+    {
         match self.inner.write(bytes) {
             Ok(count) if count > 0 => Ok(count),
             _ => {

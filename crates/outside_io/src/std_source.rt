@@ -1,6 +1,10 @@
 // A reader of std as a source.
-ghost use Rattle.std.specs.Prelude.{◌≡◌, ℕ};
+ghost use Rattle.std.specs.Prelude.{◌≡◌, ◌+◌, ◌<◌, ◌≤◌, length, min, OnErr, OnOk};
+ghost use Rattle.std.specs.Io.{ReadsAtMost};
+ghost use Rattle.std.specs.Io.KnownBytes.{ReadConsumes};
+ghost use Rattle.fault_count.specs.Rose.{Rose};
 
+use super::limits::MOST_COUNTED;
 use super::source::{Failed, Source};
 use fault_count::count_fault;
 use std::io::Read;
@@ -36,7 +40,17 @@ impl<T: Read> Source for StdSource<T> {
 
     ghost faults = { λ s. s.faults };
 
-    fn read(&mut self, into: &mut [u8]) -> Result<usize, Failed> {
+    fn read(&mut self, into: &mut [u8]) -> Result<usize, Failed>
+        requires { 0 < length into.old }
+        ensures bound { ReadsAtMost result into.new }
+        ensures bytes { ReadConsumes (T.remaining self.old.inner) (T.remaining self.new.inner) result into.new }
+        ensures counts { self.old.faults ≤ self.new.faults }
+        ensures failed { OnErr result (Rose self.old.faults self.new.faults) }
+
+        // Just a call that failed is counted.
+        ensures fault { OnErr result (self.new.faults ≡ min (self.old.faults + 1) MOST_COUNTED) }
+        ensures no_fault { OnOk result (self.new.faults ≡ self.old.faults) }
+    {
         match self.inner.read(into) {
             Ok(count) => Ok(count),
             Err(_) => {

@@ -2,13 +2,14 @@ ghost use Rattle.std.specs.Prelude.{map, IfOk, OnErr, OnOk};
 ghost use Rattle.outside_io.specs.MemInput.{HasNoEmpty};
 
 use super::{
-    Failed, Line, LineFault, LineReader, MOST_LINE_BYTES, MemSink, MemSource, StdSink, StdSource,
-    send,
+    CountDice, Dice, Failed, Line, LineFault, LineReader, MOST_LINE_BYTES, MemDice, MemSink,
+    MemSource, MemTick, StdSink, StdSource, SystemDice, Tick, make_identifier, send,
 };
 use std::alloc::{AllocError, Global};
 use std::io;
 use std::io::{Error, ErrorKind, Read};
 use std::test::Fail;
+use uuid::Uuid;
 
 // Adds a piece, if it has bytes.
 fn add_piece(alloc: Global, pieces: &mut Vec<Vec<u8>>, piece: &[u8]) -> Result<(), AllocError>
@@ -189,5 +190,45 @@ fn adapters(rt: HostRuntime) -> Result<(), Fail> {
     assert_eq!(rt; send(&mut sink, b"one"), Err(Failed));
     drop(sink);
     assert_eq!(rt; room, *b"on");
+    Ok(())
+}
+
+#[test]
+fn dice_and_ticks_give_what_they_hold(rt: HostRuntime) -> Result<(), Fail> {
+    let words = vec![in rt.alloc(); [1; 16], [2; 16]]?;
+    let mut dice = MemDice::new(rt.alloc(), words, &[1])?;
+    for want in [Ok([1; 16]), Err(Failed), Ok([2; 16]), Err(Failed)] {
+        assert_eq!(rt; dice.sixteen(), want);
+    }
+    let moments = vec![in rt.alloc(); 0, 5]?;
+    let mut tick = MemTick::new(rt.alloc(), moments, &[0])?;
+    for want in [Err(Failed), Ok(0), Ok(5), Err(Failed)] {
+        assert_eq!(rt; tick.tick(), want);
+    }
+    Ok(())
+}
+
+#[test]
+fn dice_count_in_big_endian(rt: HostRuntime) -> Result<(), Fail> {
+    let mut dice = CountDice::new();
+    for want in 0..300u128 {
+        assert_eq!(rt; dice.sixteen(), Ok(want.to_be_bytes()));
+    }
+    let mut system = SystemDice::new(&rt);
+    assert_ne!(rt; system.sixteen(), system.sixteen());
+    Ok(())
+}
+
+#[test]
+fn identifiers_are_of_version_4(rt: HostRuntime) -> Result<(), Fail> {
+    for (byte, text) in [
+        (0x00, "00000000-0000-4000-8000-000000000000"),
+        (0xff, "ffffffff-ffff-4fff-bfff-ffffffffffff"),
+        (0x5a, "5a5a5a5a-5a5a-4a5a-9a5a-5a5a5a5a5a5a"),
+    ] {
+        let mut buffer = Uuid::encode_buffer();
+        let identifier = make_identifier([byte; 16]);
+        assert_eq!(rt; identifier.hyphenated().encode_lower(&mut buffer), text);
+    }
     Ok(())
 }

@@ -6,7 +6,7 @@ use Rattle.std.specs.Str.Lines.{lines}
 use Rattle.std.specs.Io.KnownBytes.{Appends, IsAtEnd, prepend_known}
 use Rattle.outside_io.specs.Lines.{HasNoNewline, IsWholeLines, IsLine, TakesFirst, TakesNoLine}
 use Rattle.outside_io.specs.Taking.{CountsTaken}
-use Rattle.outside_io.specs.Told.{WhereTold}
+use Rattle.finite_maps.specs.Told.{WhereTold}
 use Rattle.outside_io.specs.declared.line.Line.{Line}
 use Rattle.outside_io.proofs.LinesLemmas.{lines-append, lines-taken}
 use Rattle.script_engine.specs.declared.flat_roots.FlatRoots.{FlatRoots}

@@ -4,7 +4,7 @@ use Rattle.std.specs.Str.{bytes_eq}
 use Rattle.std.specs.Str.Lines.{lines}
 use Rattle.std.specs.Io.KnownBytes.{Appends}
 use Rattle.outside_io.specs.Lines.{HasNoNewline, IsWholeLines}
-use Rattle.outside_io.specs.Told.{WhereTold}
+use Rattle.finite_maps.specs.Told.{WhereTold}
 use Rattle.script_engine.specs.declared.flat_roots.FlatRoots.{FlatRoots}
 use Rattle.script_engine.specs.declared.status.Status.{Status}
 use Rattle.script_engine.specs.declared.status.Status.TheVariants as status

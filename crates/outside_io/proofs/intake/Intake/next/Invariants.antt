@@ -1,8 +1,9 @@
-use Rattle.std.proofs.Common.{◌≡◌, ◌+◌, ◌-◌, ◌^◌, ◌<◌, ◌≤◌, ◌++◌, length}
+use Rattle.std.proofs.Common.{◌≡◌, ◌+◌, ◌-◌, ◌<◌, ◌≤◌, ◌++◌, length}
 use Rattle.std.specs.Io.KnownBytes.{Keeps}
 use Rattle.outside_io.specs.Taking.{rest_of_taking, CountsTaken}
 use Rattle.outside_io.proofs.Turns.{IsTurn}
 use Rattle.outside_io.proofs.intake.Intake.next.Given as goal
+use Rattle.outside_io.specs.declared.limits.TheConstants.{MOST_TAKEN}
 
 abbrev pub invariant-loop-place : goal.invariant-loop-place
 invariant-loop-place g l = record {
@@ -16,4 +17,4 @@ invariant-loop-place g l = record {
 }
 
 abbrev pub decreases-loop-place : goal.decreases-loop-place
-decreases-loop-place g l = 2 ^ 30 - l.self.taken
+decreases-loop-place g l = MOST_TAKEN - l.self.taken

@@ -1,10 +1,11 @@
-use Rattle.std.proofs.Common.{◌≡◌, ◌<◌, ◌^◌, List, ℕ, ap, sym, subst, ◌∙◌, arith}
+use Rattle.std.proofs.Common.{◌≡◌, ◌<◌, List, ℕ, ap, sym, subst, ◌∙◌, arith}
 use Rattle.std.specs.Io.KnownBytes.{Consumes}
 use Rattle.outside_io.specs.Lines.{HasNoNewline}
 use Rattle.outside_io.specs.Taking.{SkipsLine}
 use Rattle.outside_io.proofs.SkipLemmas.{SkipsLine-newline, TakesNoLine-more}
 use Rattle.outside_io.proofs.TakingLemmas.{CountsTaken-trans}
 use Rattle.outside_io.proofs.intake.Intake.skip_line.Goals as goal
+use Rattle.outside_io.specs.declared.limits.TheConstants.{MOST_TAKEN}
 
 pub returns-in-Some-clause-ok : goal.returns-in-Some-clause-ok
 returns-in-Some-clause-ok g c =
@@ -12,7 +13,7 @@ returns-in-Some-clause-ok g c =
     let same : c.refill.new.self.held ≡ c.self-in-loop-self.inside.buffer.held = ap (λ t. t.held) (sym c.self-in-loop-self.view_is) in
     let given = subst (Consumes (left c.loop-self.source) (left c.refill.new.source)) same c.in_ok-refill.ensures.bytes.0 in
     let place = c.in-Some.ensures in
-    subst (λ (h : List ℕ). SkipsLine (c.self-in-loop-self.inside.taken < 2 ^ 30) (left c.args.source.now) h (left c.refill.new.source)) (sym c.pass.ensures.held)
+    subst (λ (h : List ℕ). SkipsLine (c.self-in-loop-self.inside.taken < MOST_TAKEN) (left c.args.source.now) h (left c.refill.new.source)) (sym c.pass.ensures.held)
     (SkipsLine-newline _ _ _ _ _ c.in-Some.place c.loop-self.invariant.passed given place.0 place.1 place.2)
 
 pub loop-self-preserved : goal.loop-self-preserved

@@ -1,0 +1,6 @@
+use Rattle.std.proofs.Common.{◌≡◌, ◌++◌, string_bytes}
+use Rattle.workload.specs.Script.{below, new_line}
+use Rattle.workload.proofs.script.push_both.Given as goal
+
+abbrev pub invariant-loop-folder : goal.invariant-loop-folder
+invariant-loop-folder l = string_bytes l.text ≡ string_bytes l.initial.text ++ below l.folder (new_line)

@@ -1,0 +1,6 @@
+use Rattle.std.proofs.Common.{◌≡◌, ◌++◌, string_bytes}
+use Rattle.workload.specs.Script.{below, empty_line}
+use Rattle.workload.proofs.script.push_pause.Given as goal
+
+abbrev pub invariant-loop-folder : goal.invariant-loop-folder
+invariant-loop-folder l = string_bytes l.text ≡ string_bytes l.initial.text ++ below l.folder (empty_line)
