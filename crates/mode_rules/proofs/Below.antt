@@ -37,6 +37,16 @@ below_is_under (x ∷ q) (y ∷ p) =
       | false ↦ λ e. refl
     ] refl
 
+-- what lies at or below a path lies at or below all that this lies at or below
+pub under_through : (a b c : Names) → is_under a b ≡ true → is_under b c ≡ true → is_under a c ≡ true
+under_through a b [] h g = refl
+under_through a [] (z ∷ c) h g = absurd (cc)
+under_through [] (y ∷ b) (z ∷ c) h g = absurd (cc)
+under_through (x ∷ a) (y ∷ b) (z ∷ c) h g =
+    let up = and_parts (bytes_eq y x) (is_under a b) h in
+    let on = and_parts (bytes_eq z y) (is_under b c) g in
+    and_from (bytes_eq z x) (is_under a c) (ap (bytes_eq z) (sym (name_is y x up.0)) ∙ on.0) (under_through a b c up.1 on.1)
+
 -- of two paths at or above a third, one lies at or below the other
 pub one_is_under : (q a b : Names) → is_under q a ≡ true → is_under q b ≡ true → is_under a b ≡ false → is_under b a ≡ true
 one_is_under q [] b h g apart = refl

@@ -54,6 +54,11 @@ all_says f q (p ∷ ps) has h =
     ]
 
 module _ (t : Trees) where
+  -- A path is a folder on both sides, and doesn't lie at or below another.
+  pub record Over (p at : Names) : Type 0 where
+    pub folder : folders t p ≡ true
+    pub outside : is_under p at ≡ false
+
   -- above a point, each path that is among those of the trees is a folder on both sides
   pub point_lets : (p at : Names) → is_point t p ≡ true → IsAmong t at → is_under p at ≡ true → is_under at p ≡ false → folders t at ≡ true
   unfolding is_in_folders
@@ -92,21 +97,21 @@ module _ (t : Trees) where
     clear_above p point has x up down = point_lets p x point (among_above p x has up down) up down
 
     -- a point decides its own path, and what lies below it where it isn't a folder on both sides
-    pub decides : (p q : Names) → is_point t p ≡ true → IsAmong t p → is_under q p ≡ true → (p ≡ q) ⊎ (folders t p ≡ false) → Decider t q
+    abbrev pub decides : (p q : Names) → is_point t p ≡ true → IsAmong t p → is_under q p ≡ true → (p ≡ q) ⊎ (folders t p ≡ false) → Decider t q
     decides p q point has under stop = record { at = p; under = under; clear = clear_above p point has; stop = stop }
 
     module _ (q : Names) (d : Decider t q) where
       -- the points at and above a path are the one that decides it, and folders above that
-      pub one_point : (p : Names) → is_point t p ≡ true → IsAmong t p → is_under q p ≡ true → (p ≡ d.at) ⊎ (folders t p ≡ true)
+      pub one_point : (p : Names) → is_point t p ≡ true → IsAmong t p → is_under q p ≡ true → (p ≡ d.at) ⊎ Over p d.at
       one_point p point has under = by (is_under d.at p) (is_under p d.at) refl refl
         where
           beyond : is_under d.at p ≡ false → is_under p d.at ≡ true → (d.at ≡ q) ⊎ (folders t d.at ≡ false) → ⊥
           beyond down up (inl here) = let no : true ≡ false = sym under ∙ ap (λ x. is_under x p) (sym here) ∙ down in cc
           beyond down up (inr stops) = let no : true ≡ false = sym (point_lets p d.at point (among_above p d.at has up down) up down) ∙ stops in cc
 
-          by : (a b : Bool) → is_under d.at p ≡ a → is_under p d.at ≡ b → (p ≡ d.at) ⊎ (folders t p ≡ true)
+          by : (a b : Bool) → is_under d.at p ≡ a → is_under p d.at ≡ b → (p ≡ d.at) ⊎ Over p d.at
           by true true e f = inl (under_both p d.at f e)
-          by true false e f = inr (d.clear p e f)
+          by true false e f = inr (record { folder = d.clear p e f; outside = f })
           by false b e f = absurd (beyond e (one_is_under q d.at p d.under under e) d.stop)
 
 all_true : (f : Names → Bool) → ((p : Names) → f p ≡ true) → (ps : List Names) → list_all f ps ≡ true

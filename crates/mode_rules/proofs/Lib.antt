@@ -1,7 +1,10 @@
 pub mod After
+pub mod Agreeing
 pub mod Below
 pub mod Cases
 pub mod Changing
+pub mod Deciding
+pub mod Folding
 pub mod Held
 pub mod Licences
 pub mod ListLaws
@@ -11,5 +14,4 @@ pub mod PathSets
 pub mod PlanLaws
 pub mod PlanParts
 pub mod PlanPaths
-pub mod Deciding
 pub mod Turning

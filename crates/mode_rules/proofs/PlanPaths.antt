@@ -112,7 +112,7 @@ module _ (mode : Mode) (t : Trees) where
   line_there p l e = line_is_at p _ _ (verdict mode t p) l e
 
   -- the line of a folder on both sides sets a folder
-  folder_line : (p : Names) (l : AncestorLine) → folders t p ≡ true → line_at mode t p ≡ Some l → l ≡ lines.Set p Dir
+  pub folder_line : (p : Names) (l : AncestorLine) → folders t p ≡ true → line_at mode t p ≡ Some l → l ≡ lines.Set p Dir
   unfolding line_at
   folder_line p l folder e =
       let sets = agreed_line p (trees.get t.ancestor p) (trees.get t.alpha p) l (ap (line_of p (trees.get t.ancestor p) (trees.get t.alpha p)) (sym (folder_agrees t mode p folder)) ∙ e) in
@@ -146,7 +146,7 @@ module _ (mode : Mode) (t : Trees) where
   before_apart : (p q : Names) → IsBefore p q → p ≡ q → ⊥
   before_apart p q less same = let no : Equal ≡ Less = sym (tied_itself path_cmp_total p) ∙ ap (path_cmp p) same ∙ less in cc
 
-  one_kind : (p q : Names) (c : Change) (f : Conflict) → change_at mode t p ≡ Some c → conflict_at mode t q ≡ Some f → p ≡ q → ⊥
+  pub one_kind : (p q : Names) (c : Change) (f : Conflict) → change_at mode t p ≡ Some c → conflict_at mode t q ≡ Some f → p ≡ q → ⊥
   unfolding change_at conflict_at
   one_kind p q c f e h same = one_kind_by t p (verdict mode t p) c f e (ap (conflict_at mode t) same ∙ h)
 
