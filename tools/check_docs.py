@@ -3,7 +3,7 @@
 
 - Each file that a document names exists.
 - Each call and clause of docs/PROMISES.md is declared in the crate of its section.
-- Each wrong body that it names is an edit of that crate, and no edit is left out.
+- Each wrong body that it names is an edit of that crate. No edit is left out, and no law.
 - Each definition of docs/DEFINITIONS.md is in the file beside it.
 - The tables of crates name the crates of crates.txt, and the graph in CONTRIBUTING.md is the one that crate_graph.py draws.
 - No cell of README.md has more than 200 characters. The output that it shows is the stored one, and its session is one that script_tests tests.
@@ -43,12 +43,18 @@ def edits_of(crate):
     return {path.stem for path in (CRATES / crate / "must-fail").glob("*.edit")}
 
 
+def laws_of(path):
+    """The functions of a module of laws."""
+    return set(re.findall(r"^pub fn (\w+)", path.read_text(), flags=re.M)) if path.exists() else set()
+
+
 class Crate:
     """What a crate declares: its functions with their clauses, and all other names."""
 
     def __init__(self, name):
         folder = CRATES / name
         self.edits = edits_of(name)
+        self.laws = laws_of(folder / "src" / "laws.rt")
         self.clauses = {}
         self.names = set()
         for path in sorted((folder / "src").rglob("*.rt")):
@@ -133,7 +139,8 @@ def check_call(doc, token):
 
 def check_promises(doc, text):
     crate = None
-    named = {}
+    named = {name: set() for name in known}
+    told = {name: set() for name in known}
     for line in text.splitlines():
         if line.startswith("## "):
             crate = None
@@ -142,19 +149,18 @@ def check_promises(doc, text):
             if crate not in known:
                 mistake(doc, f"no crate {crate}")
                 crate = None
-            else:
-                named.setdefault(crate, set())
         elif crate and line.startswith("|") and not line.startswith(("|---", "| Promise")):
             _, calls, edits = cells_of(line)
             check_calls(doc, crate, calls)
-            for token in TOKEN.findall(edits):
-                if EDIT.match(token):
-                    named[crate].add(token)
+            named[crate] |= {token for token in TOKEN.findall(edits) if EDIT.match(token)}
+            told[crate] |= {token.split("::")[-1] for token in TOKEN.findall(calls)}
     for name, crate in known.items():
-        for edit in sorted(named.get(name, set()) - crate.edits):
+        for edit in sorted(named[name] - crate.edits):
             mistake(doc, f"{name} has no edit {edit}")
-        for edit in sorted(crate.edits - named.get(name, set())):
+        for edit in sorted(crate.edits - named[name]):
             mistake(doc, f"{name}'s edit {edit} isn't named")
+        for law in sorted(crate.laws - told[name]):
+            mistake(doc, f"{name}'s law {law} isn't named")
 
 
 def check_calls(doc, name, cell):
