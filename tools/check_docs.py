@@ -4,7 +4,7 @@
 - Each file that a document names exists.
 - Each call and clause of docs/PROMISES.md is declared in the crate of its section.
 - Each wrong body that it names is an edit of that crate. No edit is left out, and no law.
-- Each definition of docs/DEFINITIONS.md is in the file beside it.
+- Each definition of docs/DEFINITIONS.md is in the file beside it, and no file of definitions is left out.
 - The tables of crates name the crates of crates.txt, and the graph in CONTRIBUTING.md is the one that crate_graph.py draws.
 - No cell of README.md has more than 200 characters. The output that it shows is the stored one, and its session is one that script_tests tests.
 
@@ -185,6 +185,9 @@ def check_calls(doc, name, cell):
 
 
 def check_definitions(doc, text):
+    for path in sorted(CRATES.glob("*/specs/*.antt")):
+        if path.name != "Lib.antt" and str(path.relative_to(CRATES)) not in text:
+            mistake(doc, f"{path.relative_to(CRATES)} isn't named")
     for line in text.splitlines():
         if not line.startswith("|") or line.startswith(("|---", "| Word")):
             continue
