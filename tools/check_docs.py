@@ -6,12 +6,14 @@
 - Each wrong body that it names is an edit of that crate. No edit is left out, and no law.
 - Each definition of docs/DEFINITIONS.md is in the file beside it, and no file of definitions is left out.
 - The tables of crates name the crates of crates.txt, and the graph in CONTRIBUTING.md is the one that crate_graph.py draws.
+- Each contract that a document shows stands so in the code.
 - No cell of README.md has more than 200 characters. The output that it shows is the stored one, and its session is one that script_tests tests.
 
 It prints a line for each mistake, and ends with status 1 if there is one.
 """
 import pathlib
 import re
+import subprocess
 import sys
 
 sys.dont_write_bytecode = True  # no __pycache__ in the repository
@@ -24,7 +26,7 @@ MOST_IN_A_CELL = 200
 
 TOKEN = re.compile(r"`([^`]+)`")
 LINK = re.compile(r"\]\(([^)#]+)(?:#[^)]*)?\)")
-FILE = re.compile(r"^[\w.-]+(/[\w.*-]+)*\.(md|rt|antt|txt|py|edit)$|^(crates|docs|tools)/[\w./-]+$")
+FILE = re.compile(r"^[\w.-]+(/[\w.-]+)*\.(md|rt|antt|txt|py|edit)$|^(crates|docs|tools)/[\w./-]+$")
 EDIT = re.compile(r"^[a-z0-9]+(-[a-z0-9]+)+$")
 
 mistakes = []
@@ -121,12 +123,18 @@ def check_files(doc, text):
             mistake(doc, f"no file {target}")
 
 
+def files():
+    """The files of the repository, those that aren't committed yet among them."""
+    listed = subprocess.run(
+        ["git", "ls-files", "--cached", "--others", "--exclude-standard"], cwd=ROOT, check=True, capture_output=True, text=True
+    )
+    return [path for path in listed.stdout.splitlines() if (ROOT / path).exists()]
+
+
 def is_there(token):
-    if any((base / token).exists() for base in (ROOT, CRATES)):
-        return True
-    if "*" in token:
-        return any(CRATES.glob(token)) or any(ROOT.glob(token))
-    return "/" not in token and (any(CRATES.rglob(token)) or any((ROOT / "docs").rglob(token)) or any((ROOT / "tools").rglob(token))) or any(CRATES.glob("*/" + token))
+    """Whether a file ends in this path, or a folder of the repository or of its crates has it."""
+    folders = (token.rstrip("/") + "/", "crates/" + token.rstrip("/") + "/")
+    return any(path == token or path.endswith("/" + token) or path.startswith(folders) for path in FILES)
 
 
 def check_call(doc, token):
@@ -213,6 +221,15 @@ def check_crate_tables(doc, text):
         mistake(doc, f"no crate {name}")
 
 
+def check_contracts(doc):
+    """A contract that a document shows stands so in some file of code."""
+    sources = [(ROOT / path).read_text() for path in FILES if path.endswith(".rt")]
+    for block in re.findall(r"^```text\n(pub fn .*?)^```$", doc.read_text(), flags=re.S | re.M):
+        lines = [line.strip() for line in block.splitlines()]
+        if not any(all(line in source for line in lines) for source in sources):
+            mistake(doc, f"no such contract: {lines[0]}")
+
+
 def check_readme(doc, text):
     for line in text.splitlines():
         if line.startswith("|"):
@@ -231,6 +248,7 @@ def main():
     for doc in DOCS:
         text = without_blocks(doc.read_text())
         check_files(doc, text)
+        check_contracts(doc)
         if doc.name == "PROMISES.md":
             check_promises(doc, text)
         elif doc.name == "DEFINITIONS.md":
@@ -248,6 +266,7 @@ def main():
     return 1 if mistakes else 0
 
 
+FILES = files()
 known = {name: Crate(name) for name in crate_graph.crates()}
 
 if __name__ == "__main__":
