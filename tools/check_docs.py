@@ -5,7 +5,8 @@
 - Each call and clause of docs/PROMISES.md is declared in the crate of its section.
 - Each wrong body that it names is an edit of that crate. No edit is left out, and no law.
 - Each definition of docs/DEFINITIONS.md is in the file beside it, and no file of definitions is left out.
-- The tables of crates name the crates of crates.txt, and the graph in CONTRIBUTING.md is the one that crate_graph.py draws.
+- The tables of crates name the crates of crates.txt, and the graph in CONTRIBUTING.md and the floors in
+  docs/ARCHITECTURE.md are those of crate_graph.py.
 - Each contract that a document shows stands so in the code.
 - No cell of README.md has more than 200 characters. The output that it shows is the stored one, and its session is one that script_tests tests.
 
@@ -259,6 +260,8 @@ def main():
             check_readme(doc, text)
         if doc.name == "CONTRIBUTING.md" and crate_graph.graph() not in doc.read_text():
             mistake(doc, "the graph isn't the one that tools/crate_graph.py draws")
+        if doc.name == "ARCHITECTURE.md" and crate_graph.floors() not in doc.read_text():
+            mistake(doc, "the floors aren't those of tools/crate_graph.py")
     for text in crate_graph.problems():
         mistake(ROOT / "crates.txt", text)
     for line in mistakes:

@@ -44,6 +44,11 @@ def direct(rows, name):
     return [other for other in rows[name] if not any(other in below(rows, third) for third in rows[name])]
 
 
+def floors():
+    """The floors as docs/ARCHITECTURE.md shows them, a line each."""
+    return "\n".join(f"{floor:<11}{' · '.join(names)}" for floor, names in FLOORS)
+
+
 def graph():
     rows = crates()
     lines = ["graph TD"]
