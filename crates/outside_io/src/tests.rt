@@ -211,8 +211,8 @@ fn dice_and_ticks_give_what_they_hold(rt: HostRuntime) -> Result<(), Fail> {
 #[test]
 fn dice_count_in_big_endian(rt: HostRuntime) -> Result<(), Fail> {
     let mut dice = CountDice::new();
-    for want in 0..300u128 {
-        assert_eq!(rt; dice.sixteen(), Ok(want.to_be_bytes()));
+    for want in 0..300u64 {
+        assert_eq!(rt; dice.sixteen(), Ok((want as u128).to_be_bytes()));
     }
     let mut system = SystemDice::new(&rt);
     assert_ne!(rt; system.sixteen(), system.sixteen());
