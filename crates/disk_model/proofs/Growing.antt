@@ -2,7 +2,7 @@
 use Rattle.std.proofs.Common.{◌≡◌, ℕ, ◌+◌, ◌-◌, ◌<◌, List, ◌++◌, length, take, drop, replicate, sym, ap, ◌∙◌, arith}
 use Rattle.std.proofs.lemmas.List.{append-nil, length-replicate, take-replicate, drop_all}
 use Rattle.disk_model.specs.Content.{written_over}
-use Rattle.disk_model.specs.Overwriting.{take-append, drop-append, written_some}
+use Rattle.disk_model.proofs.Overwriting.{take-append, drop-append, written_some}
 
 pub grown_over : (old grown : List ℕ) (place : ℕ) (bytes : List ℕ) → 0 < length bytes → grown ≡ old ++ replicate (place + length bytes - length old) 0
     → take place grown ++ bytes ++ drop (place + length bytes) grown ≡ written_over old place bytes

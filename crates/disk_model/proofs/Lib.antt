@@ -1,3 +1,5 @@
 pub mod Growing
+pub mod Moments
+pub mod Overwriting
 pub mod Replaying
 pub mod Tearing

@@ -5,7 +5,7 @@ use Rattle.std.specs.declared.alloc.Global.{Global}
 use Rattle.disk_model.specs.Content.{Content, settled, changed, write_change, written_over}
 use Rattle.disk_model.specs.Disk.{WritesPart, FailsInPart}
 use Rattle.disk_model.specs.Replay.{after, content_after, past_after, history_of}
-use Rattle.disk_model.specs.Overwriting.{written_tears}
+use Rattle.disk_model.proofs.Overwriting.{written_tears}
 use Rattle.disk_model.specs.declared.event.Event.{Event}
 use Rattle.disk_model.specs.declared.event.Event.TheVariants.{Wrote, Synced}
 

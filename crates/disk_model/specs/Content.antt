@@ -1,5 +1,5 @@
 -- What a disk holds at a moment, and what a crash at that moment may leave of it.
-use Rattle.std.specs.Prelude.{◌≡◌, ℕ, ◌+◌, ◌-◌, ◌≤◌, max, min, List, [], ◌∷◌, ◌++◌, length, take, drop, replicate}
+use Rattle.std.specs.Prelude.{◌≡◌, ◌⊎◌, ℕ, ◌+◌, ◌-◌, ◌≤◌, max, min, List, [], ◌∷◌, ◌++◌, length, take, drop, replicate}
 
 -- A write or a cut that no sync has made sure of yet. A write reaches from one place to another, and the part between
 -- the old end and the place that was asked for belongs to it. A cut names the length that it leaves at most.
@@ -39,9 +39,13 @@ abbrev pub LeftOf : List ℕ → List Change → List ℕ → Type 0
 LeftOf synced [] image = image ≡ synced
 LeftOf synced (change ∷ older) image = (before : List ℕ) × LeftOf synced older before × Tears change before image
 
--- what a crash may leave of a content
+-- what a crash may leave of a content where it tears the changes that no sync has made sure of
+abbrev pub MayTearTo : Content → List ℕ → Type 0
+MayTearTo now image = LeftOf now.synced now.unsynced image
+
+-- what a crash may leave of a content: what reads give is among it
 abbrev pub MayLeave : Content → List ℕ → Type 0
-MayLeave now image = LeftOf now.synced now.unsynced image
+MayLeave now image = (image ≡ now.bytes) ⊎ MayTearTo now image
 
 -- each image that a crash may leave of a content has P
 abbrev pub LeavesOnly : Content → (List ℕ → Type 0) → Type 0

@@ -1,6 +1,6 @@
 -- What the calls of a disk do to its contents. They are a list, the newest first, and the list is empty where the disk
 -- doesn't tell what it holds. So each definition says nothing of such a disk but that it still tells nothing.
-use Rattle.std.specs.Prelude.{◌≡◌, ◌⊎◌, ℕ, ◌-◌, min, List, [], ◌∷◌, ◌++◌, length, take, drop}
+use Rattle.std.specs.Prelude.{◌≡◌, ◌⊎◌, ℕ, ◌+◌, ◌-◌, ◌^◌, min, List, [], ◌∷◌, ◌++◌, length, take, drop}
 use Rattle.disk_model.specs.Content.{Content, Change, Tears, written_over, settled, changed, write_change, cut_change}
 
 -- the newest content has P, where one is told
@@ -38,3 +38,7 @@ abbrev pub FailsInPart : (Content → Change) → List Content → List Content 
 FailsInPart change [] new = new ≡ []
 FailsInPart change (now ∷ past) new =
     (new ≡ now ∷ past) ⊎ ((bytes : List ℕ) × Tears (change now) now.bytes bytes × (new ≡ changed now (change now) bytes ∷ now ∷ past))
+
+-- a count of calls after n more; it stays at 2^64 - 1
+abbrev pub calls_after : ℕ → ℕ → ℕ
+calls_after calls n = min (calls + n) (2 ^ 64 - 1)

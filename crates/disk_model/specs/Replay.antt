@@ -1,13 +1,13 @@
 -- What a disk in memory holds, from what it held at first and what happened since.
-use Rattle.std.specs.Prelude.{◌≡◌, ℕ, Bool, List, [], ◌∷◌, take, if◌then◌else◌}
-use Rattle.disk_model.specs.Content.{Content, MayLeave, written_over, settled, changed, write_change, cut_change}
+use Rattle.std.specs.Prelude.{◌≡◌, ℕ, List, [], ◌∷◌, take}
+use Rattle.disk_model.specs.Content.{Content, MayTearTo, written_over, settled, changed, write_change, cut_change}
 use Rattle.disk_model.specs.declared.event.Event.{Event}
 use Rattle.disk_model.specs.declared.event.Event.TheVariants.{Wrote, CutTo, Synced}
 
 -- a content after an event
 abbrev pub after : Content → Event → Content
 after now (Wrote place count made) = changed now (write_change place count now) (written_over now.bytes place (take count made.items))
-after now (CutTo n made) = changed now (cut_change n now) (if made then take n now.bytes else now.bytes)
+after now (CutTo n) = changed now (cut_change n now) (take n now.bytes)
 after now Synced = settled now.bytes
 
 -- the content after these events
@@ -24,12 +24,7 @@ past_after past now (event ∷ events) = past_after (now ∷ past) (after now ev
 abbrev pub history_of : List ℕ → List Event → List Content
 history_of first events = content_after (settled first) events ∷ past_after [] (settled first) events
 
--- a cut that was made or not
-abbrev pub CutsPart : ℕ → Bool → List Content → List Content → Type 0
-CutsPart n made [] new = new ≡ []
-CutsPart n made (now ∷ past) new = new ≡ changed now (cut_change n now) (if made then take n now.bytes else now.bytes) ∷ now ∷ past
-
 -- An event happens to the bytes that reads give, and is torn in an image.
 abbrev pub TearsEvent : Event → List ℕ → List ℕ → List ℕ → List ℕ → Type 0
 TearsEvent event bytes image bytes' image' =
-    (now : Content) → now.bytes ≡ bytes → MayLeave now image → ((after now event).bytes ≡ bytes') × MayLeave (after now event) image'
+    (now : Content) → now.bytes ≡ bytes → MayTearTo now image → ((after now event).bytes ≡ bytes') × MayTearTo (after now event) image'

@@ -1,8 +1,8 @@
 // What a disk is.
 ghost use Rattle.std.specs.Prelude.{◌≡◌, ℕ, ◌+◌, ◌^◌, ◌<◌, ◌≤◌, List, length, IfOk, OnOk, OnErr};
 ghost use Rattle.fault_count.specs.Rose.{Rose};
-ghost use Rattle.disk_model.specs.Content.{Content, MayLeave, write_change, cut_change};
-ghost use Rattle.disk_model.specs.Disk.{OnTold, ReadsAt, Writes, Cuts, Syncs, FailsInPart};
+ghost use Rattle.disk_model.specs.Content.{Content, write_change, cut_change};
+ghost use Rattle.disk_model.specs.Disk.{OnTold, ReadsAt, Writes, Cuts, Syncs, FailsInPart, calls_after};
 
 /// How many bytes a disk has at most.
 pub const MOST_BYTES: u64 = (1 << 63) - 1;
@@ -14,7 +14,8 @@ pub struct Failed;
 /// A disk of at most `MOST_BYTES` bytes.
 ///
 /// Until a sync succeeds, a crash may leave any bytes in what was written and in what reaches past
-/// the old end, and what a cut took away may be there or not. Bytes outside stay.
+/// the old end, and what a cut took away may be there or not. Bytes outside stay. What reads give is
+/// always one of the things that a crash may leave.
 pub trait Disk {
     // The contents that it had, the newest first, where it tells them; else no content. Each stands
     // for a moment: a crash at that moment may leave the images of `MayLeave`.
@@ -23,11 +24,15 @@ pub trait Disk {
     // How many faults there were so far, as far as they were counted.
     ghost faults: { Self → ℕ };
 
+    // How many calls there were so far, as far as they were counted.
+    ghost calls: { Self → ℕ };
+
     /// How many bytes there are.
     fn length(&mut self) -> Result<u64, Failed>
         ensures bound { IfOk result (λ n. n < 2 ^ 63) }
         ensures value { IfOk result (λ n. OnTold (history self.old) (λ now. n ≡ length now.bytes)) }
         ensures same { history self.new ≡ history self.old }
+        ensures called { calls self.new ≡ calls_after (calls self.old) 1 }
         ensures counts { faults self.old ≤ faults self.new }
         ensures failed { OnErr result (Rose (faults self.old) (faults self.new)) };
 
@@ -36,6 +41,7 @@ pub trait Disk {
         ensures bound { IfOk result (λ n. n ≤ length into.old) }
         ensures bytes { IfOk result (λ n. OnTold (history self.old) (λ now. ReadsAt now.bytes place into.old n into.new)) }
         ensures same { history self.new ≡ history self.old }
+        ensures called { calls self.new ≡ calls_after (calls self.old) 1 }
         ensures counts { faults self.old ≤ faults self.new }
         ensures failed { OnErr result (Rose (faults self.old) (faults self.new)) };
 
@@ -45,6 +51,7 @@ pub trait Disk {
         ensures room { OnOk result (place + length bytes.now < 2 ^ 63) }
         ensures made { OnOk result (Writes place bytes.now (history self.old) (history self.new)) }
         ensures torn { OnErr result (FailsInPart (write_change place (length bytes.now)) (history self.old) (history self.new)) }
+        ensures called { calls self.new ≡ calls_after (calls self.old) 1 }
         ensures counts { faults self.old ≤ faults self.new }
         ensures failed { OnErr result (Rose (faults self.old) (faults self.new)) };
 
@@ -53,6 +60,7 @@ pub trait Disk {
     fn cut(&mut self, length: u64) -> Result<(), Failed>
         ensures made { OnOk result (Cuts length (history self.old) (history self.new)) }
         ensures torn { OnErr result (FailsInPart (cut_change length) (history self.old) (history self.new)) }
+        ensures called { calls self.new ≡ calls_after (calls self.old) 1 }
         ensures counts { faults self.old ≤ faults self.new }
         ensures failed { OnErr result (Rose (faults self.old) (faults self.new)) };
 
@@ -61,9 +69,7 @@ pub trait Disk {
     fn sync(&mut self) -> Result<(), Failed>
         ensures made { OnOk result (Syncs (history self.old) (history self.new)) }
         ensures same { OnErr result (history self.new ≡ history self.old) }
+        ensures called { calls self.new ≡ calls_after (calls self.old) 1 }
         ensures counts { faults self.old ≤ faults self.new }
         ensures failed { OnErr result (Rose (faults self.old) (faults self.new)) };
-
-    // What reads give is one of the images that a crash may leave.
-    ghost reads_an_image: { (disk : Self) → OnTold (history disk) (λ now. MayLeave now now.bytes) };
 }

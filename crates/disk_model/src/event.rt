@@ -1,17 +1,17 @@
 // What happened to a disk in memory.
-ghost use Rattle.std.specs.Prelude.{◌≡◌, ◌+◌, ◌-◌, ◌^◌, ◌<◌, ◌≤◌, ◌++◌, length, take, drop, replicate, if◌then◌else◌, OnOk, OnErr};
+ghost use Rattle.std.specs.Prelude.{◌≡◌, ◌+◌, ◌-◌, ◌^◌, ◌<◌, ◌≤◌, ◌++◌, length, take, drop, replicate, OnOk, OnErr};
 ghost use Rattle.disk_model.specs.Content.{written_over};
 
 use crate::disk::MOST_BYTES;
 use std::alloc::AllocError;
 
-/// A change, and how much of it was made, or a sync.
+/// A change that was made, a write maybe in part, or a sync.
 #[derive(Debug, Drop)]
 pub enum Event {
     /// A write of so many bytes at a place, of which these were written.
     Wrote(u64, u64, Vec<u8>),
-    /// A cut to a length, and whether it was made.
-    CutTo(u64, bool),
+    /// A cut to a length.
+    CutTo(u64),
     Synced,
 }
 
@@ -53,11 +53,11 @@ fn put(bytes: &mut [u8], place: usize, made: &[u8])
     bytes[place..place + made.len()].copy_from_slice(made);
 }
 
-/// Takes away all behind the first `length` bytes, where that is to be made.
-pub fn cut_to(bytes: &mut Vec<u8>, length: u64, made: bool)
-    ensures { bytes.new.items ≡ (if made then take length bytes.old.items else bytes.old.items) }
+/// Takes away all behind the first `length` bytes.
+pub fn cut_to(bytes: &mut Vec<u8>, length: u64)
+    ensures { bytes.new.items ≡ take length bytes.old.items }
 {
-    if made && length < bytes.len() as u64 {
+    if length < bytes.len() as u64 {
         bytes.truncate(length as usize);
     }
 }

@@ -10,6 +10,7 @@
 mod disk;
 mod event;
 mod file_disk;
+pub mod laws;
 mod mem_disk;
 mod plan;
 mod tear;

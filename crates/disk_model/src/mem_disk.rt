@@ -1,9 +1,9 @@
 // A disk in memory.
-ghost use Rattle.std.specs.Prelude.{◌≡◌, ℕ, ◌+◌, ◌-◌, ◌^◌, ◌<◌, ◌≤◌, [], ◌∷◌, length, refl, IfOk, OnOk, OnErr};
+ghost use Rattle.std.specs.Prelude.{◌≡◌, ℕ, ◌+◌, ◌-◌, ◌^◌, ◌<◌, ◌≤◌, [], ◌∷◌, length, ◌↔◌, IfOk, IsOk, OnOk, OnErr};
+ghost use Rattle.fault_count.specs.Rose.{Rose};
 ghost use Rattle.disk_model.specs.Content.{settled, MayLeave};
-ghost use Rattle.disk_model.specs.Disk.{OnTold, ReadsAt, WritesPart, Syncs};
-ghost use Rattle.disk_model.specs.Replay.{content_after, history_of, CutsPart};
-ghost use Rattle.disk_model.specs.ReplayLaws.{reads_one};
+ghost use Rattle.disk_model.specs.Disk.{OnTold, ReadsAt, WritesPart, Cuts, Syncs};
+ghost use Rattle.disk_model.specs.Replay.{content_after, history_of};
 
 use crate::disk::{Disk, Failed, MOST_BYTES};
 use crate::event::{Event, cut_to, overwrite};
@@ -42,6 +42,7 @@ impl MemDisk {
     ) -> Result<MemDisk, AllocError>
         ensures history { IfOk result (λ disk. ⟦<MemDisk as Disk>⟧.history disk ≡ settled bytes.items ∷ []) }
         ensures faults { IfOk result (λ disk. ⟦<MemDisk as Disk>⟧.faults disk ≡ 0) }
+        ensures calls { IfOk result (λ disk. ⟦<MemDisk as Disk>⟧.calls disk ≡ 0) }
         ensures plan { IfOk result (λ disk. plan_of disk ≡ record { failing = calls.now; stop = stop; made = 0 }) }
     {
         let plan = CallPlan::new(alloc, calls, stop)?;
@@ -84,6 +85,7 @@ impl MemDisk {
         ensures err { OnErr result (history_of self.new.first.items self.new.events.items
             ≡ history_of self.old.first.items self.old.events.items) }
         ensures faults { self.new.faults ≡ self.old.faults }
+        ensures plan { self.new.plan ≡ self.old.plan }
     {
         let kept = Vec::from_slice(self.alloc, made)?;
         self.events.reserve(1)?;
@@ -92,16 +94,17 @@ impl MemDisk {
         Ok(())
     }
 
-    // Makes a cut, or leaves it unmade.
-    fn cut_part(&mut self, length: u64, made: bool) -> Result<(), AllocError>
-        ensures ok { OnOk result (CutsPart length made
+    // Makes a cut.
+    fn cut_part(&mut self, length: u64) -> Result<(), AllocError>
+        ensures ok { OnOk result (Cuts length
             (history_of self.old.first.items self.old.events.items) (history_of self.new.first.items self.new.events.items)) }
         ensures err { OnErr result (history_of self.new.first.items self.new.events.items
             ≡ history_of self.old.first.items self.old.events.items) }
         ensures faults { self.new.faults ≡ self.old.faults }
+        ensures plan { self.new.plan ≡ self.old.plan }
     {
-        self.events.push(Event::CutTo(length, made))?;
-        cut_to(&mut self.bytes, length, made);
+        self.events.push(Event::CutTo(length))?;
+        cut_to(&mut self.bytes, length);
         Ok(())
     }
 
@@ -112,6 +115,7 @@ impl MemDisk {
         ensures err { OnErr result (history_of self.new.first.items self.new.events.items
             ≡ history_of self.old.first.items self.old.events.items) }
         ensures faults { self.new.faults ≡ self.old.faults }
+        ensures plan { self.new.plan ≡ self.old.plan }
     {
         self.events.push(Event::Synced)?;
         Ok(())
@@ -119,13 +123,29 @@ impl MemDisk {
 }
 
 impl Disk for MemDisk {
+    ghost use Rattle.disk_model.specs.Content.{write_change, cut_change};
+    ghost use Rattle.disk_model.specs.Disk.{Writes, Cuts, FailsInPart, calls_after};
+    ghost use Rattle.disk_model.specs.MemDisk.{contents, faults_of, calls_of, plan_of, next_fate, FailsBy, first_half};
+    ghost use Rattle.disk_model.specs.Plan.{after_call};
+
     ghost history = { λ d. history_of d.first.items d.events.items };
 
     ghost faults = { λ d. d.faults };
 
-    ghost reads_an_image = { λ d. reads_one (settled d.first.items) d.events.items refl };
+    ghost calls = { λ d. d.plan.made };
 
-    fn length(&mut self) -> Result<u64, Failed> {
+    fn length(&mut self) -> Result<u64, Failed>
+        ensures bound { IfOk result (λ n. n < 2 ^ 63) }
+        ensures value { IfOk result (λ n. OnTold (contents self.old) (λ now. n ≡ length now.bytes)) }
+        ensures same { contents self.new ≡ contents self.old }
+        ensures called { calls_of self.new ≡ calls_after (calls_of self.old) 1 }
+        ensures counts { faults_of self.old ≤ faults_of self.new }
+        ensures failed { OnErr result (Rose (faults_of self.old) (faults_of self.new)) }
+
+        // By the call's number: it succeeds exactly where it is to, and the bytes are within the limit.
+        ensures by_plan { IsOk result ↔ ((next_fate self.old ≡ Fate.Made) × OnTold (contents self.old) (λ now. length now.bytes < 2 ^ 63)) }
+        ensures plan { plan_of self.new ≡ after_call (plan_of self.old) }
+    {
         let fate = self.plan.next();
         let length = self.bytes.len() as u64;
         if fate != Fate::Made || length > MOST_BYTES {
@@ -135,7 +155,18 @@ impl Disk for MemDisk {
         Ok(length)
     }
 
-    fn read(&mut self, place: u64, into: &mut [u8]) -> Result<usize, Failed> {
+    fn read(&mut self, place: u64, into: &mut [u8]) -> Result<usize, Failed>
+        ensures bound { IfOk result (λ n. n ≤ length into.old) }
+        ensures bytes { IfOk result (λ n. OnTold (contents self.old) (λ now. ReadsAt now.bytes place into.old n into.new)) }
+        ensures same { contents self.new ≡ contents self.old }
+        ensures called { calls_of self.new ≡ calls_after (calls_of self.old) 1 }
+        ensures counts { faults_of self.old ≤ faults_of self.new }
+        ensures failed { OnErr result (Rose (faults_of self.old) (faults_of self.new)) }
+
+        // By the call's number.
+        ensures by_plan { IsOk result ↔ (next_fate self.old ≡ Fate.Made) }
+        ensures plan { plan_of self.new ≡ after_call (plan_of self.old) }
+    {
         if self.plan.next() != Fate::Made {
             count_fault(&mut self.faults);
             return Err(Failed);
@@ -143,7 +174,20 @@ impl Disk for MemDisk {
         Ok(copy_from(&self.bytes, place, into))
     }
 
-    fn write_at(&mut self, place: u64, bytes: &[u8]) -> Result<(), Failed> {
+    fn write_at(&mut self, place: u64, bytes: &[u8]) -> Result<(), Failed>
+        ensures room { OnOk result (place + length bytes.now < 2 ^ 63) }
+        ensures made { OnOk result (Writes place bytes.now (contents self.old) (contents self.new)) }
+        ensures torn { OnErr result (FailsInPart (write_change place (length bytes.now)) (contents self.old) (contents self.new)) }
+        ensures called { calls_of self.new ≡ calls_after (calls_of self.old) 1 }
+        ensures counts { faults_of self.old ≤ faults_of self.new }
+        ensures failed { OnErr result (Rose (faults_of self.old) (faults_of self.new)) }
+
+        // By the call's number: of one that is torn the first half is written.
+        ensures by_plan { OnOk result (next_fate self.old ≡ Fate.Made) }
+        ensures torn_by_plan { OnErr result (FailsBy (next_fate self.old)
+            (WritesPart place (length bytes.now) (first_half bytes.now)) (contents self.old) (contents self.new)) }
+        ensures plan { plan_of self.new ≡ after_call (plan_of self.old) }
+    {
         let fate = self.plan.next();
         let count = bytes.len() as u64;
         if fate == Fate::Stopped || place > MOST_BYTES || count > MOST_BYTES - place {
@@ -165,18 +209,29 @@ impl Disk for MemDisk {
         }
     }
 
-    fn cut(&mut self, length: u64) -> Result<(), Failed> {
+    fn cut(&mut self, length: u64) -> Result<(), Failed>
+        ensures made { OnOk result (Cuts length (contents self.old) (contents self.new)) }
+        ensures torn { OnErr result (FailsInPart (cut_change length) (contents self.old) (contents self.new)) }
+        ensures called { calls_of self.new ≡ calls_after (calls_of self.old) 1 }
+        ensures counts { faults_of self.old ≤ faults_of self.new }
+        ensures failed { OnErr result (Rose (faults_of self.old) (faults_of self.new)) }
+
+        // By the call's number: one that is torn is made.
+        ensures by_plan { OnOk result (next_fate self.old ≡ Fate.Made) }
+        ensures torn_by_plan { OnErr result (FailsBy (next_fate self.old) (Cuts length) (contents self.old) (contents self.new)) }
+        ensures plan { plan_of self.new ≡ after_call (plan_of self.old) }
+    {
         let fate = self.plan.next();
         if fate == Fate::Stopped {
             count_fault(&mut self.faults);
             return Err(Failed);
         }
         if fate == Fate::Torn {
-            let _ = self.cut_part(length, true);
+            let _ = self.cut_part(length);
             count_fault(&mut self.faults);
             return Err(Failed);
         }
-        match self.cut_part(length, true) {
+        match self.cut_part(length) {
             Ok(()) => Ok(()),
             Err(_) => {
                 count_fault(&mut self.faults);
@@ -185,7 +240,17 @@ impl Disk for MemDisk {
         }
     }
 
-    fn sync(&mut self) -> Result<(), Failed> {
+    fn sync(&mut self) -> Result<(), Failed>
+        ensures made { OnOk result (Syncs (contents self.old) (contents self.new)) }
+        ensures same { OnErr result (contents self.new ≡ contents self.old) }
+        ensures called { calls_of self.new ≡ calls_after (calls_of self.old) 1 }
+        ensures counts { faults_of self.old ≤ faults_of self.new }
+        ensures failed { OnErr result (Rose (faults_of self.old) (faults_of self.new)) }
+
+        // By the call's number.
+        ensures by_plan { OnOk result (next_fate self.old ≡ Fate.Made) }
+        ensures plan { plan_of self.new ≡ after_call (plan_of self.old) }
+    {
         if self.plan.next() == Fate::Made && self.settle().is_ok() {
             return Ok(());
         }

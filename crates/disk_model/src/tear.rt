@@ -40,8 +40,8 @@ pub fn tear_event(
             }
             Ok(())
         }
-        Event::CutTo(length, made) => {
-            cut_to(bytes, *length, *made);
+        Event::CutTo(length) => {
+            cut_to(bytes, *length);
             tear_cut(image, *length, tear);
             Ok(())
         }
@@ -84,8 +84,8 @@ fn tear_cut(image: &mut Vec<u8>, length: u64, tear: Tear)
     if length < end {
         match tear {
             Tear::Nothing | Tear::Filled(_) => {}
-            Tear::Whole => cut_to(image, length, true),
-            Tear::Half => cut_to(image, length + (end - length) / 2, true),
+            Tear::Whole => cut_to(image, length),
+            Tear::Half => cut_to(image, length + (end - length) / 2),
         }
     }
 }

@@ -69,6 +69,7 @@ fn no_disk_reaches_past_its_limit(rt: HostRuntime) -> Result<(), Fail> {
     Ok(())
 }
 
+// While the file is open as a disk, it can't be opened as another.
 #[test]
 fn a_file_is_a_disk(rt: HostRuntime) -> Result<(), Fail> {
     let path = "disk_model_file";
@@ -79,6 +80,7 @@ fn a_file_is_a_disk(rt: HostRuntime) -> Result<(), Fail> {
     disk.cut(5)?;
     disk.cut(9)?;
     disk.sync()?;
+    assert!(rt; FileDisk::open(&rt, path).is_err());
     drop(disk);
     let mut disk = FileDisk::open(&rt, path)?;
     assert_eq!(rt; disk.length()?, 5);

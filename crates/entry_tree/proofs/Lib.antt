@@ -1,11 +1,14 @@
 pub mod Children
 pub mod Copies
 pub mod Maps
-pub mod Parts
 pub mod Paths
 pub mod Pruning
 pub mod Rows
 pub mod Setting
+pub mod Subtrees
 pub mod Trees
 pub mod Walks
-pub mod Words
+pub mod Digests
+pub mod Atoms
+pub mod AtomLaws
+pub mod PathWords

@@ -1,12 +1,14 @@
 -- How paths lie to one another, and what lies below one.
-use Rattle.std.proofs.Common.{◌≡◌, ℕ, Bool, true, false, ◌&&◌, List, [], ◌∷◌, ◌++◌, bytes_eq, refl, sym, ap, ◌∙◌, Ordering}
+use Rattle.std.proofs.Common.{◌≡◌, ℕ, Bool, true, false, ◌&&◌, List, [], ◌∷◌, ◌++◌, bytes_eq, refl, ap, ◌∙◌, Ordering}
 use Rattle.std.specs.FinMap.{IsAntisymmetric, nat_cmp-IsAntisymmetric, slice_cmp-IsAntisymmetric}
 use Rattle.std.specs.Cmp.{tied_itself}
 use Rattle.std.specs.Cmp.Lexicographic.{slice_cmp, nat_list_cmp_total, texts_ties}
-use Rattle.std.specs.Ordering.{nat_cmp, is_eq, is_gt, is_lt, is_le, ordering_then}
+use Rattle.std.specs.Ordering.{nat_cmp, is_eq, is_gt, is_le}
 use Rattle.std.specs.declared.cmp.Ordering.TheVariants.{Less, Equal, Greater}
 use Rattle.sync_path.specs.Path.{path_cmp, is_under}
 use Rattle.sync_path.proofs.Intervals.{path_cmp_exact, under_is_behind, between_is_under}
+use Rattle.sync_path.proofs.Below.{name_tie}
+pub use Rattle.sync_path.proofs.Below.{below_is, tied}
 use Rattle.entry_tree.specs.Tree.{Names, is_below}
 
 -- only equal names tie, and only equal paths
@@ -19,15 +21,6 @@ path_same = path_cmp_exact
 pub both_true : (a b : Bool) → (a && b) ≡ true → (a ≡ true) × (b ≡ true)
 both_true true b h = (refl, h)
 both_true false b h = absurd (cc)
-
-pub tied : (r : Ordering) → is_eq r ≡ true → r ≡ Equal
-tied Less h = absurd (cc)
-tied Equal h = refl
-tied Greater h = absurd (cc)
-
--- equal bytes are equal names
-pub name_tie : (a b : List ℕ) → bytes_eq a b ≡ true → slice_cmp nat_cmp a b ≡ Equal
-name_tie a b h = tied (slice_cmp nat_cmp a b) (sym (texts_ties a b) ∙ h)
 
 pub name_is : (a b : List ℕ) → bytes_eq a b ≡ true → a ≡ b
 name_is a b h = name_same a b (name_tie a b h)
@@ -57,21 +50,6 @@ under_le k p h = le_is (path_cmp p k) (under_is_behind p k h)
 -- between a path and what lies under it, all lies under it
 pub under_between : (p a b : Names) → is_le (path_cmp p a) ≡ true → path_cmp a b ≡ Less → is_under b p ≡ true → is_under a p ≡ true
 under_between p a b le lt h = between_is_under p p a b (under_itself p) h (not_gt (path_cmp p a) le) (ap is_gt lt)
-
-and_false : (a : Bool) → false ≡ (a && false)
-and_false true = refl
-and_false false = refl
-
--- what lies below a path is what lies under it and is above it in path order
-pub below_is : (k p : Names) → is_below k p ≡ (is_lt (path_cmp p k) && is_under k p)
-below_is [] [] = refl
-below_is (y ∷ k) [] = refl
-below_is [] (n ∷ p) = refl
-below_is (y ∷ k) (n ∷ p) =
-    elim (bytes_eq n y) as (λ v. bytes_eq n y ≡ v → (v && is_below k p) ≡ (is_lt (path_cmp (n ∷ p) (y ∷ k)) && (v && is_under k p))) [
-      | true ↦ λ e. below_is k p ∙ ap (λ r. is_lt (ordering_then r (path_cmp p k)) && is_under k p) (sym (name_tie n y e))
-      | false ↦ λ e. and_false (is_lt (path_cmp (n ∷ p) (y ∷ k)))
-    ] refl
 
 -- under a path, one name more stays under it
 pub under_child : (q p : Names) (n : List ℕ) → is_under q p ≡ true → is_under (q ++ n ∷ []) p ≡ true

@@ -20,7 +20,7 @@ use Rattle.std.proofs.lemmas.Map.Keys.{sorted_head, sorted_tail}
 use Rattle.sync_path.specs.Path.{path_cmp, is_under}
 use Rattle.sync_path.specs.PathOrder.{path_cmp_total}
 use Rattle.entry_tree.specs.Tree.{Names, ByPath, is_below, name_below, child_row, children_below}
-use Rattle.entry_tree.specs.Walk.{front_under, is_met, left_behind, BeginsWith}
+use Rattle.entry_tree.specs.Walk.{front_under, is_met, left_behind, HasFirst}
 use Rattle.entry_tree.proofs.Children.{rows_are_below}
 use Rattle.entry_tree.proofs.Paths.{both_true, name_is, path_same, under_le, under_between, below_is}
 use Rattle.entry_tree.proofs.Pruning.{first_passes}
@@ -167,11 +167,11 @@ under_trans (x ∷ a) (n ∷ b) (m ∷ p) h g =
     ap (λ v. v && is_under a p) (ap (bytes_eq m) (sym (name_is n x low.0)) ∙ high.0) ∙ under_trans a b p low.1 high.1
 
 -- what a walk gives first begins what it had left
-pub begins : {A X : Type 0} (shows : A → X) (had all : List X) (r : Option A) (rest : List X) → had ≡ all → TakesFirst shows had r rest → MatchOption r (all ≡ []) (λ e. BeginsWith (shows e) all)
+pub begins : {A X : Type 0} (shows : A → X) (had all : List X) (r : Option A) (rest : List X) → had ≡ all → TakesFirst shows had r rest → MatchOption r (all ≡ []) (λ e. HasFirst (shows e) all)
 begins shows had all None rest same h = sym same ∙ h.0
 begins shows had all (Some e) rest same h = record { rest = rest; is = sym same ∙ h }
 
-module _ {X : Type 0} (p at : Names) (es : List (Names × X)) (e : Names × X) (sorted : IsStrictlySortedBy path_cmp (keys_of es)) (first : BeginsWith e (left_behind p at es)) where
+module _ {X : Type 0} (p at : Names) (es : List (Names × X)) (e : Names × X) (sorted : IsStrictlySortedBy path_cmp (keys_of es)) (first : HasFirst e (left_behind p at es)) where
   -- the first of what is left lies under the path
   pub first_under : is_under e.0 p ≡ true
   first_under = (both_true (is_lt (path_cmp at e.0) && true) (is_under e.0 p) (first_passes (λ (y : Names × X). is_met (Excluded at) p y.0) es e first.rest first.is)).1

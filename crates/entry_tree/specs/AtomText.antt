@@ -1,69 +1,73 @@
--- Which texts spell atoms, and where another text goes wrong.
-use Rattle.std.specs.Prelude.{◌≡◌, ℕ, ◌+◌, Bool, false, ◌==◌, ◌&&◌, ◌||◌, cond, List, [], ◌∷◌, length, codes, bytes_eq, Option, Some, None, Result, Ok, Err, IfOk, IfErr, MatchOption}
-use Rattle.hex.specs.Hex.{encode_lower, decode_sized}
-use Rattle.hex.specs.declared.error.FromHexError.{FromHexError}
-use Rattle.entry_tree.specs.Atom.{spelling_of}
-use Rattle.entry_tree.specs.Text.{is_text}
+-- Which words spell an atom, and where the words of a line go wrong.
+use Rattle.std.specs.Prelude.{◌≡◌, ℕ, Bool, true, false, ◌==◌, ◌&&◌, List, [], ◌∷◌, ◌++◌, codes, Option, Some, None}
+use Rattle.std.specs.Fmt.{decimal}
+use Rattle.hex.specs.Hex.{encode_lower}
+use Rattle.line_words.specs.Lines.{Item, HasWords, AreBytes}
+use Rattle.line_words.specs.Spelling.{written}
+use Rattle.entry_tree.specs.Digest.{IsDigest}
+use Rattle.entry_tree.specs.ProblemKind.{problem_number}
+use Rattle.entry_tree.specs.Text.{is_text, IsText}
 use Rattle.entry_tree.specs.declared.atom.Atom.{Atom}
-use Rattle.entry_tree.specs.declared.atom_error.AtomError.{AtomError}
-use Rattle.entry_tree.specs.declared.atom_error.AtomError.TheVariants.{Bad, Memory}
+use Rattle.entry_tree.specs.declared.atom.Atom.TheVariants.{Dir, File, Link, Untracked, Problem}
 
--- the first word of a text: what stands before its first space (32)
-abbrev pub first_word : List ℕ → List ℕ
-first_word [] = []
-first_word (b ∷ text) = cond (b == 32) [] (b ∷ first_word text)
+-- the word behind the digest of an executable file; behind that of another file stands none
+abbrev pub executable_word : Bool → List (List ℕ)
+executable_word true = codes "x" ∷ []
+executable_word false = []
 
--- what stands behind the first space, if there is one
-abbrev pub behind_word : List ℕ → Option (List ℕ)
-behind_word [] = None
-behind_word (b ∷ text) = cond (b == 32) (Some text) (behind_word text)
+-- the words of an atom: that of its kind, and behind it what tells it from others of its kind. A link's text stands behind `=` (61).
+abbrev pub words_of : Atom → List (List ℕ)
+words_of Dir = codes "dir" ∷ []
+words_of (File digest executable) = codes "file" ∷ encode_lower digest ∷ executable_word executable
+words_of (Link text) = codes "link" ∷ (61 ∷ text) ∷ []
+words_of Untracked = codes "untracked" ∷ []
+words_of (Problem kind) = codes "problem" ∷ decimal (problem_number kind) ∷ []
 
--- whether digits spell the bytes to which they decode
-abbrev pub spells_back : List ℕ → Result (List ℕ) FromHexError → Bool
-spells_back digits (Ok bytes) = bytes_eq (encode_lower bytes) digits
-spells_back digits (Err e) = false
+-- the spelling of an atom: its words as a line has them
+abbrev pub spelling_of : Atom → List ℕ
+spelling_of atom = written (words_of atom)
 
--- the digits of a digest: the lower-case spelling of 32 bytes
-abbrev pub is_digest_text : List ℕ → Bool
-is_digest_text digits = spells_back digits (decode_sized digits 32)
+-- what the types of a digest and of a link's text keep
+abbrev pub IsAtom : Atom → Type 0
+IsAtom Dir = Unit {0}
+IsAtom (File digest executable) = IsDigest digest × AreBytes digest
+IsAtom (Link text) = IsText text × AreBytes text
+IsAtom Untracked = Unit {0}
+IsAtom (Problem kind) = Unit {0}
 
--- the number of a kind of problem
-abbrev pub is_problem_text : List ℕ → Bool
-is_problem_text word = bytes_eq word (codes "1") || bytes_eq word (codes "2") || bytes_eq word (codes "3")
-
--- `=` (61) and the text of a link
+-- `=` and the text of a link
 abbrev pub is_link_text : List ℕ → Bool
 is_link_text [] = false
 is_link_text (b ∷ text) = (b == 61) && is_text text
 
--- a word that is an atom by itself
-abbrev pub is_lone : List ℕ → Bool
-is_lone word = bytes_eq word (codes "dir") || bytes_eq word (codes "untracked")
+-- The words of some atom begin with these.
+pub record BeginsAtom (words : List (List ℕ)) : Type 0 where
+  pub atom : Atom
+  pub is_atom : IsAtom atom
+  pub rest : List (List ℕ)
+  pub is : words_of atom ≡ words ++ rest
 
--- a word that another has to follow
-abbrev pub is_begun : List ℕ → Bool
-is_begun word = bytes_eq word (codes "file") || bytes_eq word (codes "problem") || bytes_eq word (codes "link")
+-- no atom goes on behind these words with what stands here, a word or none
+abbrev pub NoneGoesOn : List (List ℕ) → Option (List ℕ) → Type 0
+NoneGoesOn words None = Unit {0}
+NoneGoesOn words (Some word) = BeginsAtom (words ++ word ∷ []) → ⊥
 
--- the place of the first bad word, where the last word of an atom should begin at `place`
-abbrev pub bad_last : (List ℕ → Bool) → ℕ → List ℕ → Option (List ℕ) → Option ℕ
-bad_last good place word None = cond (good word) None (Some place)
-bad_last good place word (Some more) = Some (cond (good word) (place + length word + 1) place)
+-- behind these words a line, which ends at `end`, goes wrong at this place: at its end, if they are no atom, or at the next item
+abbrev pub StopsAt : List (List ℕ) → List Item → ℕ → ℕ → Type 0
+StopsAt words [] end place = (place ≡ end) × ((atom : Atom) → IsAtom atom → words_of atom ≡ words → ⊥)
+StopsAt words (item ∷ rest) end place = (place ≡ item.place) × NoneGoesOn words item.word
 
--- the place of the first bad word, by the first word and what stands behind it
-abbrev pub bad_words : List ℕ → Option (List ℕ) → Option ℕ
-bad_words word None = cond (is_lone word) None (Some (cond (is_begun word) (length word) 0))
-bad_words word (Some rest) =
-    cond (is_lone word) (Some (length word + 1))
-    (cond (bytes_eq word (codes "file")) (bad_last is_digest_text 5 (first_word rest) (behind_word rest))
-    (cond (bytes_eq word (codes "problem")) (bad_last is_problem_text 8 (first_word rest) (behind_word rest))
-    (cond (bytes_eq word (codes "link")) (cond (is_link_text rest) None (Some 5))
-    (Some 0))))
+-- Behind some words of an atom these items of a line, which ends at `end`, go wrong at this place: up to there they go on with an
+-- atom, and there no atom does.
+pub record GoesWrong (before : List (List ℕ)) (items : List Item) (end place : ℕ) : Type 0 where
+  pub front : List Item
+  pub rest : List Item
+  pub words : List (List ℕ)
+  pub all : items ≡ front ++ rest
+  pub read : HasWords front words
+  pub begun : BeginsAtom (before ++ words)
+  pub stops : StopsAt (before ++ words) rest end place
 
--- where a text is no atom: the first byte of the first word that no atom continues, or the length where it ends early
-abbrev pub bad_place : List ℕ → Option ℕ
-bad_place text = bad_words (first_word text) (behind_word text)
-
--- what is read of a text that is bad at a place, or nowhere: then an atom that it spells, or there was no memory
-abbrev pub Reads : List ℕ → Option ℕ → Result Atom AtomError → Type 0
-Reads text place result =
-    MatchOption place (IfOk result (λ atom. spelling_of atom ≡ text) × IfErr result (λ e. e ≡ Memory)) (λ p. result ≡ Err (Bad (record { place = p })))
+-- these items of a line, which ends at `end`, are no atom, by what stands at this place
+abbrev pub IsBadAtom : List Item → ℕ → ℕ → Type 0
+IsBadAtom items end place = GoesWrong [] items end place

@@ -1,10 +1,14 @@
 pub mod Atom
 pub mod AtomText
+pub mod AtomReading
 pub mod Copying
 pub mod Digest
+pub mod PathWord
+pub mod PieceHasher
 pub mod Entry
 pub mod ProblemKind
 pub mod Side
+pub mod Subtree
 pub mod Text
 pub mod Tree
 pub mod Walk

@@ -1,9 +1,10 @@
 -- Trees: what stands at each path, as a finite map closed under parents.
-use Rattle.std.specs.Prelude.{ℕ, Bool, true, false, not, ◌&&◌, ◌||◌, cond, List, [], ◌∷◌, ◌++◌, bytes_eq, IsTrue, Option, Some, None}
+use Rattle.std.specs.Prelude.{ℕ, Bool, false, not, cond, List, [], ◌∷◌, ◌++◌, bytes_eq, IsTrue, Option, Some, None}
 use Rattle.std.specs.FinMap as map
 use Rattle.std.specs.List.{filter, filter_map, list_any}
 use Rattle.std.specs.Option.{option_map}
 use Rattle.sync_path.specs.Path.{path_cmp, is_under, parent_of}
+pub use Rattle.sync_path.specs.Path.{is_below}
 use Rattle.entry_tree.specs.declared.tree_error.TreeError.{TreeError}
 use Rattle.entry_tree.specs.declared.tree_error.TreeError.TheVariants.{NoParent, NotDir}
 
@@ -14,13 +15,6 @@ Names = List (List ℕ)
 -- what stands at each path: a finite map from paths, in path order
 abbrev pub ByPath : Type 0 → Type 0
 ByPath X = map.FinMap path_cmp X
-
--- whether a path lies below another: under it, and another path
-abbrev pub is_below : Names → Names → Bool
-is_below [] [] = false
-is_below (first ∷ path) [] = true
-is_below [] (name ∷ names) = false
-is_below (first ∷ path) (name ∷ names) = bytes_eq name first && is_below path names
 
 -- the name by which a path stands directly below another, if it does
 abbrev pub name_below : Names → Names → Option (List ℕ)
@@ -61,14 +55,6 @@ module _ {X : Type 0} where
   -- the tree without all below a path
   abbrev pub without_below : ByPath X → Names → ByPath X
   without_below tree path = map.retain_keys tree (λ q. not (is_below q path))
-
-  -- the tree's part at a path: what stands at and below it, and the folders above it
-  abbrev pub part : ByPath X → Names → ByPath X
-  part tree path = map.retain_keys tree (λ q. is_under q path || is_under path q)
-
-  -- the folders above a path
-  abbrev pub folders_above : ByPath X → Names → ByPath X
-  folders_above tree path = map.retain_keys tree (λ q. is_below path q)
 
   -- what the tree holds at the parent of a path; outer None for the root, which has no parent
   abbrev pub at_parent : ByPath X → Names → Option (Option X)

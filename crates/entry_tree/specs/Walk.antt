@@ -31,7 +31,7 @@ is_met start path q = range_contains path_cmp start Unbounded q && is_under q pa
 abbrev pub left_behind : {X : Type 0} → Names → Names → List (Names × X) → List (Names × X)
 left_behind path at es = filter (λ e. is_met (Excluded at) path e.0) es
 
--- the list begins with this
-pub record BeginsWith {A : Type 0} (first : A) (all : List A) : Type 0 where
+-- the list has this first
+pub record HasFirst {A : Type 0} (first : A) (all : List A) : Type 0 where
   pub rest : List A
   pub is : all ≡ first ∷ rest

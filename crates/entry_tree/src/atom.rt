@@ -1,4 +1,4 @@
-// What a session sees at a path.
+//! What a session sees at a path.
 ghost use Rattle.std.specs.Prelude.{◌≡◌, IsTrue, IfOk, OnErr};
 ghost use Rattle.entry_tree.specs.Atom.{is_dir, is_link, is_tracked, same_atom};
 
@@ -13,8 +13,8 @@ use std::alloc::{AllocError, Global};
 pub enum Atom {
     /// A folder.
     Dir,
-    /// A file, by the digest of its content.
-    File(Digest),
+    /// A file, by the digest of its content. The bit is true exactly where the file is executable.
+    File(Digest, bool),
     /// A symbolic link, by its text.
     Link(Text),
     /// Something that the session leaves alone: an ignored path, or neither a folder, a plain file nor a link.
@@ -31,7 +31,7 @@ impl Atom {
     {
         match self {
             Atom::Dir => Ok(Atom::Dir),
-            Atom::File(digest) => Ok(Atom::File(*digest)),
+            Atom::File(digest, executable) => Ok(Atom::File(*digest, *executable)),
             Atom::Link(text) => match text.copy(alloc) {
                 Ok(text) => Ok(Atom::Link(text)),
                 Err(error) => Err(error),
@@ -47,7 +47,7 @@ impl Atom {
     {
         match self {
             Atom::Dir => true,
-            Atom::File(_) => false,
+            Atom::File(_, _) => false,
             Atom::Link(_) => false,
             Atom::Untracked => false,
             Atom::Problem(_) => false,
@@ -60,14 +60,14 @@ impl Atom {
     {
         match self {
             Atom::Dir => true,
-            Atom::File(_) => true,
+            Atom::File(_, _) => true,
             Atom::Link(_) => true,
             Atom::Untracked => false,
             Atom::Problem(_) => false,
         }
     }
 
-    /// Whether the two are the same, as `==` tells. Cost: the length of the texts of two links.
+    /// Whether the two are the same, as `==` tells: two files have one digest and one bit. Cost: the length of the texts of two links.
     pub fn is_same(&self, other: &Atom) -> bool
         ensures { result ≡ same_atom self.now other.now }
     {

@@ -1,14 +1,14 @@
-// Why a text was not read as an atom.
+//! Why a text was not read as an atom.
 ghost use Rattle.std.specs.Prelude.{◌≡◌};
 
 use std::alloc::AllocError;
 use thiserror::Error;
 
-/// Where a text is no atom: the first byte of the first word that no atom continues, or the text's length where
+/// Where a line is no atom: the first byte of the first word that no atom goes on with, or the line's length where
 /// it ends early.
 #[derive(Clone, Copy, Debug, PartialEq, Eq)]
 pub struct BadAtom {
-    pub place: u32,
+    pub place: usize,
 }
 
 /// Why a text was not read as an atom.

@@ -1,11 +1,11 @@
-// What stands directly below a path of a tree.
+//! What stands directly below a path of a tree.
 ghost use Rattle.std.specs.Prelude.{◌≡◌, [], IfOk, OnOk, IsTrue, MatchOption};
 ghost use Rattle.std.specs.List.{filter_map};
 ghost use Rattle.std.specs.Map.Iter.{deref_pair};
 ghost use Rattle.std.specs.BTreeMap.{IsOrdered};
 ghost use Rattle.sync_path.specs.Path.{path_cmp, is_under};
 ghost use Rattle.entry_tree.specs.Tree.{child_row};
-ghost use Rattle.entry_tree.specs.Walk.{left_behind, BeginsWith};
+ghost use Rattle.entry_tree.specs.Walk.{left_behind, HasFirst};
 
 use crate::names::child_name;
 use crate::node::Node;
@@ -63,7 +63,7 @@ fn first_behind<'a, T>(
     path: &'a Path,
 ) -> Option<(&'a Path, &'a T)>
     requires { IsTrue (is_under at.now path.now) }
-    ensures first { MatchOption result (left_behind path.now at.now map.now.entries ≡ []) (λ e. BeginsWith (deref_pair e) (left_behind path.now at.now map.now.entries)) }
+    ensures first { MatchOption result (left_behind path.now at.now map.now.entries ≡ []) (λ e. HasFirst (deref_pair e) (left_behind path.now at.now map.now.entries)) }
     ensures ordered { IsOrdered path_cmp map.now }
 {
     Under::new(map, Bound::Excluded(at), path).next()

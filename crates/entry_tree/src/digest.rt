@@ -1,12 +1,13 @@
-// The digest of a file's content.
-ghost use Rattle.std.specs.Prelude.{◌≡◌, ◌==◌, IfSome, is_some};
-ghost use Rattle.entry_tree.specs.Digest.{IsDigest};
-ghost use Rattle.entry_tree.specs.AtomText.{is_digest_text};
+//! The digest of a file's content.
+ghost use Rattle.std.specs.Prelude.{◌≡◌, ◌==◌, true, IfOk, IfSome, is_some, string_bytes};
+ghost use Rattle.entry_tree.specs.Digest.{IsDigest, is_digest_text};
 ghost use Rattle.hex.specs.Hex.{encode_lower};
+ghost use Rattle.line_words.specs.Lines.{AreBytes};
 ghost use Rattle.sha2.specs.Sha256.{sha256};
 
 use hex::FromHex;
 use sha2::Sha256;
+use std::alloc::{AllocError, Global};
 use std::marker::Model;
 
 /// A SHA-256 digest (FIPS 180-4), which names a file's content. Contracts see its 32 bytes.
@@ -35,20 +36,42 @@ impl Digest {
         }
     }
 
+    /// The digest that is these 32 bytes.
+    pub fn from_bytes(bytes: [u8; 32]) -> Digest
+        ensures { result ≡ bytes }
+    {
+        Digest { bytes }
+    }
+
+    /// The digest as 64 lower-case hexadecimal digits. It takes no memory.
+    pub fn digits(&self) -> [u8; 64]
+        ensures { result ≡ encode_lower self.now }
+    {
+        let mut digits = [0; 64];
+        let _ = hex::encode_to_slice(&self.bytes, &mut digits);
+        digits
+    }
+
+    /// The digest as 64 lower-case hexadecimal digits, which `read` reads.
+    pub fn write(&self, alloc: Global) -> Result<String, AllocError>
+        ensures value { IfOk result (λ digits. string_bytes digits ≡ encode_lower self.now) }
+        ensures read { IfOk result (λ digits. is_digest_text (string_bytes digits) ≡ true) }
+    {
+        digits_of(alloc, &self.bytes)
+    }
+
     /// The digest that these 64 lower-case hexadecimal digits spell; none where the text is another.
-    pub fn read(digits: &str) -> Option<Digest>
+    pub fn read(digits: &[u8]) -> Option<Digest>
         ensures value { IfSome result (λ digest. encode_lower digest ≡ digits.now) }
+        ensures digest { IfSome result (λ digest. IsDigest digest × AreBytes digest) }
         ensures found { is_some result ≡ is_digest_text digits.now }
     {
         let Ok(bytes) = <[u8; 32] as FromHex>::from_hex(digits) else {
             return None;
         };
-        let mut spelt = [0; 64];
-        if hex::encode_to_slice(&bytes, &mut spelt).is_err() {
-            return None;
-        }
-        if spelt.as_slice() == digits.as_bytes() {
-            Some(Digest { bytes })
+        let digest = Digest { bytes };
+        if digest.digits().as_slice() == digits {
+            Some(digest)
         } else {
             None
         }
@@ -61,6 +84,15 @@ impl Digest {
     {
         &self.bytes
     }
+}
+
+// The digits of 32 bytes.
+fn digits_of(alloc: Global, bytes: &[u8]) -> Result<String, AllocError>
+    requires { IsDigest bytes.now }
+    ensures value { IfOk result (λ digits. string_bytes digits ≡ encode_lower bytes.now) }
+    ensures read { IfOk result (λ digits. is_digest_text (string_bytes digits) ≡ true) }
+{
+    hex::encode(alloc, bytes)
 }
 
 impl PartialEq for Digest {

@@ -1,4 +1,4 @@
-// The names directly below a path of a tree.
+//! The names directly below a path of a tree.
 ghost use Rattle.std.specs.Prelude.{◌≡◌, IfOk};
 ghost use Rattle.entry_tree.specs.Tree.{name_below, names_below};
 
@@ -34,11 +34,5 @@ pub(crate) fn child_name(
     if !below.is_under(path) {
         return Ok(None);
     }
-    match below.last_name() {
-        None => Ok(None),
-        Some(text) => match Name::read(alloc, text) {
-            Ok(name) => Ok(Some(name)),
-            Err(_) => Err(AllocError),
-        },
-    }
+    below.copy_last_name(alloc)
 }

@@ -1,4 +1,4 @@
-// What a tree can hold at a path.
+//! What a tree can hold at a path.
 ghost use Rattle.std.specs.Prelude.{◌≡◌, Bool, IsTrue, IfOk, OnErr};
 
 use std::alloc::{AllocError, Global};

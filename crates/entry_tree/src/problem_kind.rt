@@ -1,8 +1,7 @@
-// Why a file's content was not seen.
+//! Why a file's content was not seen.
 ghost use Rattle.std.specs.Prelude.{◌≡◌, IfSome, is_some};
 ghost use Rattle.std.specs.Fmt.{decimal};
-ghost use Rattle.entry_tree.specs.AtomText.{is_problem_text};
-ghost use Rattle.entry_tree.specs.ProblemKind.{problem_number};
+ghost use Rattle.entry_tree.specs.ProblemKind.{problem_number, is_problem_text};
 
 /// Why a scan did not see the content of a file that it found.
 #[derive(Clone, Copy, Debug, PartialEq, Eq)]
@@ -17,20 +16,31 @@ pub enum ProblemKind {
 
 impl ProblemKind {
     /// The kind whose number this is; none where the text is another.
-    pub fn read(digit: &str) -> Option<ProblemKind>
+    pub fn read(digit: &[u8]) -> Option<ProblemKind>
         ensures value { IfSome result (λ kind. decimal (problem_number kind) ≡ digit.now) }
         ensures found { is_some result ≡ is_problem_text digit.now }
     {
-        if digit == "1" {
+        if digit == b"1".as_slice() {
             return Some(ProblemKind::Changed);
         }
-        if digit == "2" {
+        if digit == b"2".as_slice() {
             return Some(ProblemKind::TooLarge);
         }
-        if digit == "3" {
+        if digit == b"3".as_slice() {
             return Some(ProblemKind::Failed);
         }
         None
+    }
+
+    /// Its number as it is written.
+    pub fn digit(self) -> [u8; 1]
+        ensures { result ≡ decimal (problem_number self) }
+    {
+        match self {
+            ProblemKind::Changed => *b"1",
+            ProblemKind::TooLarge => *b"2",
+            ProblemKind::Failed => *b"3",
+        }
     }
 
     /// The number that stands for it in text, from 1 to 3.

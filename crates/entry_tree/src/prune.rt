@@ -1,4 +1,4 @@
-// Taking out of a map of paths what lies under a path.
+//! Taking out of a map of paths what lies under a path.
 ghost use Rattle.std.specs.Prelude.{◌≡◌, ◌↔◌, not, IsSome, IsTrue, IfNone, None};
 ghost use Rattle.std.specs.FinMap.{from_entries};
 ghost use Rattle.std.specs.List.{filter, list_any};
@@ -52,7 +52,7 @@ fn take_out<T: Drop>(map: &mut BTreeMap<Path, T>, aside: Path, path: &Path)
 {
     take_each(map, aside, path);
     if stands_below(map, path) {
-        map.retain(|key, _| !is_strictly_under(key, path));
+        map.retain(|key, _| !key.is_below(path));
     }
 }
 
@@ -86,11 +86,4 @@ fn stands_below<T>(map: &BTreeMap<Path, T>, path: &Path) -> bool
     Under::new(map, Bound::Excluded(path), path)
         .next()
         .is_some()
-}
-
-// Whether the path lies below another.
-fn is_strictly_under(path: &Path, top: &Path) -> bool
-    ensures { result ≡ is_below path.now top.now }
-{
-    top.compare(path).is_lt() && path.is_under(top)
 }

@@ -1,4 +1,4 @@
-// Putting into a map of paths.
+//! Putting into a map of paths.
 ghost use Rattle.std.specs.Prelude.{◌≡◌, IsSome, OnOk, OnErr, IfErr, None, Some};
 ghost use Rattle.std.specs.BTreeMap.{Updates, get};
 ghost use Rattle.sync_path.specs.Path.{path_cmp};

@@ -1,4 +1,4 @@
-// The two sides of a session.
+//! The two sides of a session.
 ghost use Rattle.std.specs.Prelude.{◌≡◌};
 ghost use Rattle.entry_tree.specs.Side.{other_side};
 

@@ -1,4 +1,7 @@
-use crate::{Atom, AtomError, Digest, ProblemKind, Text, TextError, read_atom, text_of};
+use crate::{
+    Atom, AtomError, Digest, PieceHasher, ProblemKind, Text, TextError, read_atom, read_path,
+    text_of, write_path,
+};
 use std::alloc::{AllocError, Global};
 use std::test::Fail;
 
@@ -35,6 +38,12 @@ fn digests_are_those_of_the_standard(rt: HostRuntime) -> Result<(), Fail> {
     );
     assert!(rt; abc == Digest::of(b"abc"));
     assert!(rt; abc != nothing);
+    let mut pieces = PieceHasher::new();
+    pieces.take(b"a");
+    pieces.take(b"bc");
+    assert!(rt; pieces.finish() == abc);
+    assert!(rt; Digest::from_bytes(*abc.as_bytes()) == abc);
+    assert!(rt; Digest::read(abc.write(alloc)?.as_bytes()) == Some(abc));
     Ok(())
 }
 
@@ -44,14 +53,17 @@ fn atoms_are_spelt(rt: HostRuntime) -> Result<(), Fail> {
     let cases = [
         (Atom::Dir, "dir"),
         (
-            Atom::File(Digest::of(b"abc")),
-            "file ba7816bf8f01cfea414140de5dae2223b00361a396177a9cb410ff61f20015ad",
+            Atom::File(Digest::of(b"abc"), true),
+            "file ba7816bf8f01cfea414140de5dae2223b00361a396177a9cb410ff61f20015ad x",
         ),
         (
-            Atom::File(Digest::of(b"")),
+            Atom::File(Digest::of(b""), false),
             "file e3b0c44298fc1c149afbf4c8996fb92427ae41e4649b934ca495991b7852b855",
         ),
-        (Atom::Link(Text::read(alloc, "../a b/é")?), "link =../a b/é"),
+        (
+            Atom::Link(Text::read(alloc, "../a b/é%")?),
+            "link =../a%20b/%C3%A9%25",
+        ),
         (Atom::Untracked, "untracked"),
         (Atom::Problem(ProblemKind::Changed), "problem 1"),
         (Atom::Problem(ProblemKind::TooLarge), "problem 2"),
@@ -92,7 +104,7 @@ fn a_text_has_1_to_4096_bytes(rt: HostRuntime) -> Result<(), Fail> {
 }
 
 // The place at which a text is bad, or none where it is an atom that is written as the same text.
-fn bad_place(alloc: Global, text: &str) -> Result<Option<u32>, AllocError> {
+fn bad_place(alloc: Global, text: &str) -> Result<Option<usize>, AllocError> {
     match read_atom(alloc, text) {
         Ok(atom) => {
             if text_of(alloc, &atom)?.as_str() == text {
@@ -115,7 +127,11 @@ fn a_text_is_an_atom_or_bad_at_one_place(rt: HostRuntime) -> Result<(), Fail> {
             "file ba7816bf8f01cfea414140de5dae2223b00361a396177a9cb410ff61f20015ad",
             None,
         ),
-        ("link =a b", None),
+        (
+            "file ba7816bf8f01cfea414140de5dae2223b00361a396177a9cb410ff61f20015ad x",
+            None,
+        ),
+        ("link =a%20b", None),
         ("problem 3", None),
         ("", Some(0)),
         ("dirs", Some(0)),
@@ -131,6 +147,20 @@ fn a_text_is_an_atom_or_bad_at_one_place(rt: HostRuntime) -> Result<(), Fail> {
             "file ba7816bf8f01cfea414140de5dae2223b00361a396177a9cb410ff61f20015ad ",
             Some(70),
         ),
+        (
+            "file ba7816bf8f01cfea414140de5dae2223b00361a396177a9cb410ff61f20015ad y",
+            Some(70),
+        ),
+        (
+            "file ba7816bf8f01cfea414140de5dae2223b00361a396177a9cb410ff61f20015ad x x",
+            Some(72),
+        ),
+        ("file  00", Some(5)),
+        ("link =a b", Some(8)),
+        ("link =%61", Some(5)),
+        ("link =%c3%a9", Some(5)),
+        ("link =é", Some(5)),
+        ("link =%FF", Some(5)),
         ("link a", Some(5)),
         ("link =", Some(5)),
         ("problem", Some(7)),
@@ -139,6 +169,34 @@ fn a_text_is_an_atom_or_bad_at_one_place(rt: HostRuntime) -> Result<(), Fail> {
     ];
     for (text, place) in cases {
         assert_eq!(rt; bad_place(alloc, text)?, place, "{text}");
+    }
+    Ok(())
+}
+
+// The path whose word this is, as its word again, or `none`.
+fn path_again(alloc: Global, word: &str) -> Result<String, AllocError> {
+    let mut text = String::new(alloc);
+    match read_path(alloc, word.as_bytes())? {
+        Some(path) => write_path(&mut text, &path)?,
+        None => text.push_str("none")?,
+    }
+    Ok(text)
+}
+
+#[test]
+fn a_paths_word_is_its_text_and_a_dot_for_the_root(rt: HostRuntime) -> Result<(), Fail> {
+    let alloc = rt.alloc();
+    let cases = [
+        (".", "."),
+        ("a", "a"),
+        ("a/b c/é", "a/b%20c/%C3%A9"),
+        ("", "none"),
+        ("/", "none"),
+        ("a/", "none"),
+        ("a/..", "none"),
+    ];
+    for (word, written) in cases {
+        assert_eq!(rt; path_again(alloc, word)?.as_str(), written);
     }
     Ok(())
 }

@@ -1,14 +1,14 @@
-// The text of a symbolic link.
+//! The text of a symbolic link.
 ghost use Rattle.std.specs.Prelude.{◌≡◌, ◌↔◌, ◌==◌, OnOk, IfOk, Err};
-ghost use Rattle.entry_tree.specs.Text.{is_text, IsText};
+ghost use Rattle.entry_tree.specs.Text.{is_text, has_text_len, IsText};
 ghost use Rattle.entry_tree.specs.declared.text.TextError.TheVariants.{BadLength, Memory};
 
 use std::alloc::{AllocError, Global};
 use std::marker::Model;
 use thiserror::Error;
 
-/// The greatest length of a text, in bytes.
-const MAX_TEXT_LEN: usize = 4096;
+/// The greatest length of a link's text, in bytes.
+pub const MAX_TEXT_LEN: usize = 4096;
 
 /// The text of a symbolic link: UTF-8 of 1 to 4,096 bytes, which may be any. Contracts see its bytes.
 #[derive(Debug, Drop)]
@@ -84,9 +84,16 @@ impl Text {
     }
 }
 
-// Whether the text has 1 to 4,096 bytes.
+// Whether this makes a text.
 fn is_text(text: &str) -> bool
     ensures { result ≡ is_text text.now }
+{
+    has_text_len(text)
+}
+
+// Whether this, which is UTF-8 by its type, has 1 to 4,096 bytes.
+fn has_text_len(text: &str) -> bool
+    ensures { result ≡ has_text_len text.now }
 {
     1 <= text.len() && text.len() <= MAX_TEXT_LEN
 }

@@ -1,4 +1,4 @@
-// Why nothing was set in a tree.
+//! Why nothing was set in a tree.
 ghost use Rattle.std.specs.Prelude.{◌≡◌};
 
 use std::alloc::AllocError;

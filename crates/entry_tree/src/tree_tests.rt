@@ -1,4 +1,4 @@
-use crate::{Atom, Digest, Entry, Node, Side, Stamp, Text, Tree, TreeError, TreeOf};
+use crate::{Atom, Digest, Entry, Node, Side, Stamp, Subtree, Text, Tree, TreeError, TreeOf};
 use std::alloc::{AllocError, Global};
 use std::test::Fail;
 use sync_path::Path;
@@ -13,7 +13,7 @@ fn planted(alloc: Global, texts: &[&str]) -> Result<Tree, Fail> {
             None => tree.set(
                 alloc,
                 &Path::read(alloc, text)?,
-                Atom::File(Digest::of(b"")),
+                Atom::File(Digest::of(b""), false),
             )?,
         }
     }
@@ -57,7 +57,11 @@ fn only_a_folder_has_something_below(rt: HostRuntime) -> Result<(), Fail> {
     assert!(rt; tree.is_empty());
     assert!(rt; tree.set(alloc, &below, Atom::Dir) == Err(TreeError::NoParent));
     tree.set(alloc, &root, Atom::Dir)?;
-    tree.set(alloc, &Path::read(alloc, "a")?, Atom::File(Digest::of(b"")))?;
+    tree.set(
+        alloc,
+        &Path::read(alloc, "a")?,
+        Atom::File(Digest::of(b""), false),
+    )?;
     assert!(rt; tree.set(alloc, &below, Atom::Dir) == Err(TreeError::NotDir));
     assert_eq!(rt; names(alloc, &tree, &root)?.as_str(), "a ");
     assert_eq!(rt; tree.len(), 2);
@@ -75,10 +79,6 @@ fn walks_are_in_path_order_and_removals_take_what_is_below(rt: HostRuntime) -> R
     assert_eq!(rt; names(alloc, &tree, &a)?.as_str(), "b z ");
     assert_eq!(rt; names(alloc, &tree, &root)?.as_str(), "a a-b ab ");
     assert!(rt; tree.has_below(&a));
-    let part = tree.part(alloc, &Path::read(alloc, "a/b")?)?;
-    assert_eq!(rt; paths(alloc, &part)?.as_str(), " a a/b a/b/c ");
-    let above = tree.folders_above(alloc, &Path::read(alloc, "a/b")?)?;
-    assert_eq!(rt; paths(alloc, &above)?.as_str(), " a ");
     let mut copy = tree.copy(alloc)?;
     tree.set(alloc, &a, Atom::Link(Text::read(alloc, "ab")?))?;
     assert_eq!(rt; paths(alloc, &tree)?.as_str(), " a a-b ab ");
@@ -87,6 +87,26 @@ fn walks_are_in_path_order_and_removals_take_what_is_below(rt: HostRuntime) -> R
     assert_eq!(rt; paths(alloc, &copy)?.as_str(), " a-b ab ");
     copy.remove_under(&root);
     assert!(rt; copy.is_empty());
+    Ok(())
+}
+
+#[test]
+fn a_subtree_holds_what_stands_at_and_below_its_path(rt: HostRuntime) -> Result<(), Fail> {
+    let alloc = rt.alloc();
+    let tree = planted(alloc, &["ab", "a-b", "a/", "a/z", "a/b/", "a/b/c"])?;
+    let subtree = tree
+        .subtree(alloc, &Path::read(alloc, "a/b")?)?
+        .copy(alloc)?;
+    let mut all = String::new(alloc);
+    for (path, node) in subtree.entries().iter().rev() {
+        assert!(rt; subtree.get(path) == Some(node) && tree.get(path) == Some(node));
+        all.push_str(path.write(alloc)?.as_str())?;
+        all.push_str(" ")?;
+    }
+    assert_eq!(rt; all.as_str(), "a/b/c a/b ");
+    assert!(rt; subtree.get(&Path::read(alloc, "a")?).is_none());
+    assert!(rt; subtree.len() == 2 && !subtree.is_empty());
+    assert!(rt; Subtree::new(alloc).is_empty());
     Ok(())
 }
 
@@ -110,7 +130,7 @@ fn entries_stand_in_trees_too(rt: HostRuntime) -> Result<(), Fail> {
     let root = Path::root(alloc);
     tree.set(alloc, &root, Entry::Dir)?;
     let cases = [
-        ("a", Entry::File(Stamp(7))),
+        ("a", Entry::File(Stamp(7), false)),
         ("b", Entry::Link(Text::read(alloc, "a")?)),
         ("c", Entry::Other),
     ];
@@ -129,7 +149,7 @@ fn entries_stand_in_trees_too(rt: HostRuntime) -> Result<(), Fail> {
 #[test]
 fn folders_files_and_links_are_tracked(rt: HostRuntime) -> Result<(), Fail> {
     let alloc = rt.alloc();
-    let file = Atom::File(Digest::of(b"a"));
+    let file = Atom::File(Digest::of(b"a"), true);
     let link = Atom::Link(Text::read(alloc, "a")?);
     assert!(rt; Atom::Dir.is_tracked() && file.is_tracked() && link.is_tracked());
     assert!(rt; !Atom::Untracked.is_tracked());

@@ -1,4 +1,4 @@
-// Walks over the entries of a tree, in path order.
+//! Walks over the entries of a tree, in path order.
 ghost use Rattle.std.specs.Prelude.{◌≡◌, length};
 ghost use Rattle.std.specs.Iterator.{at_most};
 ghost use Rattle.std.specs.Map.Iter.{TakesFirst, deref_pair};

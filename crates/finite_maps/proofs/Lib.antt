@@ -1,2 +1,4 @@
+pub mod Constructors
 pub mod MapLoops
+pub mod SortedLists
 pub mod TreeMaps

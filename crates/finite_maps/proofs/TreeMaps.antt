@@ -20,7 +20,8 @@ both true b p q = q
 both false b p q = p
 
 module _ {K X : Type 0} (R : K → K → Ordering) where
-  find-lookup : (q : K) (es : List (K × X)) → map.find R q es ≡ lookup (is_at (R q)) es
+  -- a search from the front, in the words of a tree
+  pub find-lookup : (q : K) (es : List (K × X)) → map.find R q es ≡ lookup (is_at (R q)) es
   find-lookup q [] = refl
   find-lookup q (e ∷ es) = ap (cond (is_eq (R q e.0)) (Some e.1)) (find-lookup q es)
 
@@ -29,7 +30,8 @@ module _ {K X : Type 0} (R : K → K → Ordering) where
   below_all-from_less k (e ∷ es) h =
       both (is_lt (R k e.0)) _ (subst (λ r. T (is_lt r)) (sym h.0) tt) (below_all-from_less k es h.1)
 
-  is_sorted-from_keys : (es : List (K × X)) → IsStrictlySortedBy R (keys_of es) → T (map.is_sorted R es)
+  -- keys that rise, in the words of a finite map
+  pub is_sorted-from_keys : (es : List (K × X)) → IsStrictlySortedBy R (keys_of es) → T (map.is_sorted R es)
   is_sorted-from_keys [] h = tt
   is_sorted-from_keys (e ∷ es) h =
       both (below_all R e.0 es) _ (below_all-from_less e.0 es (sorted_head R e.0 (keys_of es) h)) (is_sorted-from_keys es (sorted_tail R e.0 (keys_of es) h))

@@ -1,5 +1,5 @@
 -- An append, outcome by outcome.
-use Rattle.std.proofs.Common.{◌≡◌, inl, inr, ℕ, ◌+◌, ◌^◌, ◌≤◌, ◌<◌, min, Bool, true, false, cond, is_ok, Result, Ok, Vec, List, [], ◌∷◌, ◌++◌, length, take, refl, ap, sym, subst, ◌∙◌, arith}
+use Rattle.std.proofs.Common.{◌≡◌, inl, ℕ, ◌+◌, false, cond, is_ok, Result, Ok, Vec, List, [], ◌∷◌, ◌++◌, length, refl, ap, sym, subst, ◌∙◌}
 use Rattle.std.proofs.lemmas.List.{map_push}
 use Rattle.std.specs.declared.alloc.Global.{Global}
 use Rattle.disk_model.specs.Content.{Content, LeavesOnly, settled, written_over, write_change}
@@ -9,12 +9,12 @@ use Rattle.frame_journal.specs.Layout.{block, IsPayload, OpensWith, OpensWithOne
 use Rattle.frame_journal.specs.Reading.{payloads_of}
 use Rattle.frame_journal.specs.Resting.{IsResting}
 use Rattle.frame_journal.specs.JournalState.{MayOpenWith}
-use Rattle.frame_journal.specs.Standing.{Stands, is_closed, refused_of}
+use Rattle.frame_journal.specs.Standing.{Stands, is_closed, pending_of}
 use Rattle.frame_journal.specs.Steps.{WritesSynced}
 use Rattle.frame_journal.specs.declared.standing.Standing.{Standing}
 use Rattle.frame_journal.specs.declared.standing.Standing.TheVariants as standing
 use Rattle.frame_journal.proofs.Told.{told_from}
-use Rattle.frame_journal.proofs.Leaving.{IsReady, ready_from, same_leaves, then_fails, then_writes, now_failed, now_written, settled_leaves}
+use Rattle.frame_journal.proofs.Leaving.{IsReady, ready_from, ready_weaker, since_from, same_leaves, then_fails, then_writes, now_failed, now_written, settled_leaves}
 use Rattle.frame_journal.proofs.Committing.{rest_opens, behind_opens, behind_staged, gate_staged, staged_opens, gate_rests}
 
 -- the payloads after a push that was made
@@ -42,7 +42,7 @@ resting_leaves ps gate now rests =
     subst (λ n. LeavesOnly n (OpensWith ps)) (sym rests.synced) (settled_leaves now.bytes (OpensWith ps) (rest_opens ps gate now.bytes rests.rests))
 
 -- what a crash may leave of a journal
-pub stands_leaves : (s : Standing) (history : List Content) (ps : List (List ℕ)) (gate : ℕ) → OnTold history (λ now. Stands s ps gate now) → OnTold history (λ now. LeavesOnly now (MayOpenWith ps (refused_of s)))
+pub stands_leaves : (s : Standing) (history : List Content) (ps : List (List ℕ)) (gate : ℕ) → OnTold history (λ now. Stands s ps gate now) → OnTold history (λ now. LeavesOnly now (MayOpenWith ps (pending_of s ps)))
 stands_leaves standing.Open history ps gate stands = told_from history (λ now. IsResting ps gate now) (λ now. LeavesOnly now (OpensWith ps)) (λ now rests. resting_leaves ps gate now rests) stands
 stands_leaves standing.Closed history ps gate stands = stands
 stands_leaves (standing.Refused q) history ps gate stands =
@@ -70,17 +70,14 @@ module _ (ps : List (List ℕ)) (gate : ℕ) (q : List ℕ) (fits : IsPayload q)
 
   block_moments : OnTold old (IsReady (write_change (gate + 1) (length bytes)) P)
   block_moments = told_from old (IsReady (write_change (gate + 1) (length bytes)) (OpensWith ps)) (IsReady (write_change (gate + 1) (length bytes)) P)
-      (λ now ready b torn. (λ image left. inl ((ready b torn).0 image left), inl (ready b torn).1)) block_ready
+      (λ now r. ready_weaker (write_change (gate + 1) (length bytes)) (OpensWith ps) P now (λ image opens. inl opens) r) block_ready
 
   -- the block failed
   pub block_failed : (new : List Content) → FailsInPart (write_change (gate + 1) (length bytes)) old new → OnTold new (λ now. LeavesOnly now (OpensWith ps))
   block_failed new fails = now_failed old new (write_change (gate + 1) (length bytes)) (OpensWith ps) leaves_first block_ready fails
 
   pub block_failed_moments : (new : List Content) → FailsInPart (write_change (gate + 1) (length bytes)) old new → LeavesSince old new P
-  block_failed_moments new fails = record {
-    at_first = at_first;
-    afterwards = then_fails old old new (write_change (gate + 1) (length bytes)) P (same_leaves old old P refl) block_moments fails;
-  }
+  block_failed_moments new fails = since_from old new P at_first (then_fails old old new (write_change (gate + 1) (length bytes)) P (same_leaves old old P refl) block_moments fails)
 
   module _ (mid : List Content) (writes : WritesSynced (gate + 1) bytes old mid) where
     staged : OnTold mid (λ now. (now ≡ settled now.bytes) × IsStaged ps q gate now.bytes)
@@ -97,7 +94,7 @@ module _ (ps : List (List ℕ)) (gate : ℕ) (q : List ℕ) (fits : IsPayload q)
 
     gate_moments : OnTold mid (IsReady (write_change gate 1) P)
     gate_moments = told_from mid (IsReady (write_change gate 1) (IsStaged ps q gate)) (IsReady (write_change gate 1) P)
-        (λ now ready b torn. (λ image left. staged_opens ps gate q image ((ready b torn).0 image left), staged_opens ps gate q b (ready b torn).1)) gate_ready
+        (λ now r. ready_weaker (write_change gate 1) (IsStaged ps q gate) P now (λ image is. staged_opens ps gate q image is) r) gate_ready
 
     so_far : LeavesAfter old mid P
     so_far = then_writes old old mid (gate + 1) bytes P (same_leaves old old P refl) block_moments writes
@@ -107,7 +104,7 @@ module _ (ps : List (List ℕ)) (gate : ℕ) (q : List ℕ) (fits : IsPayload q)
     gate_failed new fails = now_failed mid new (write_change gate 1) (IsStaged ps q gate) staged_leaves gate_ready fails
 
     pub gate_failed_moments : (new : List Content) → FailsInPart (write_change gate 1) mid new → LeavesSince old new P
-    gate_failed_moments new fails = record { at_first = at_first; afterwards = then_fails old mid new (write_change gate 1) P so_far gate_moments fails }
+    gate_failed_moments new fails = since_from old new P at_first (then_fails old mid new (write_change gate 1) P so_far gate_moments fails)
 
     -- all was made
     pub made_rests : (new : List Content) → WritesSynced gate (1 ∷ []) mid new → OnTold new (λ now. IsResting (ps ++ q ∷ []) (gate + (9 + length q)) now)
@@ -118,4 +115,4 @@ module _ (ps : List (List ℕ)) (gate : ℕ) (q : List ℕ) (fits : IsPayload q)
         (λ now both. gate_rests ps gate q now.bytes both.1) staged))
 
     pub made_moments : (new : List Content) → WritesSynced gate (1 ∷ []) mid new → LeavesSince old new P
-    made_moments new opened = record { at_first = at_first; afterwards = then_writes old mid new gate (1 ∷ []) P so_far gate_moments opened }
+    made_moments new opened = since_from old new P at_first (then_writes old mid new gate (1 ∷ []) P so_far gate_moments opened)

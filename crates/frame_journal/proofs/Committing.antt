@@ -1,11 +1,11 @@
 -- What the two steps of an append leave of a file.
-use Rattle.std.proofs.Common.{◌≡◌, ◌≢◌, ◌⊎◌, inl, inr, ℕ, zero, suc, ◌+◌, ◌-◌, ◌≤◌, ◌<◌, min, max, List, [], ◌∷◌, ◌++◌, length, take, drop, get_or, replicate, refl, ap, sym, subst, ◌∙◌, append_assoc, arith}
+use Rattle.std.proofs.Common.{◌≡◌, inl, inr, ℕ, zero, ◌+◌, ◌-◌, ◌≤◌, ◌<◌, min, List, [], ◌∷◌, ◌++◌, length, take, drop, get_or, replicate, ap, sym, subst, ◌∙◌, append_assoc, arith}
 use Rattle.std.proofs.lemmas.Bool.{cases_eq}
 use Rattle.std.proofs.lemmas.List.{length-append, take_all, drop_all, append-nil, take-append-drop, take_at, drop_at, drop_more}
 use Rattle.disk_model.specs.Content.{TornWrite, written_over}
-use Rattle.disk_model.specs.Overwriting.{written_some}
-use Rattle.frame_journal.specs.Layout.{block, frame, frames, IsPayload, ArePayloads, EndsShut, OpensWith, OpensWithOneMore, IsAtRest, IsStaged}
-use Rattle.frame_journal.proofs.Spelling.{length-block, length-frame}
+use Rattle.disk_model.proofs.Overwriting.{written_some}
+use Rattle.frame_journal.specs.Layout.{block, frame, frames, IsPayload, OpensWith, OpensWithOneMore, IsAtRest, IsStaged}
+use Rattle.frame_journal.proofs.Spelling.{length-frame}
 use Rattle.frame_journal.proofs.Found.{frames-push, fit-push}
 
 -- a write within the bytes leaves no gap

@@ -1,10 +1,9 @@
 -- What a reader finds at a place.
-use Rattle.std.proofs.Common.{◌≡◌, ◌≢◌, ℕ, zero, suc, ◌+◌, ◌-◌, ◌*◌, ◌^◌, ◌<◌, ◌≤◌, min, List, [], ◌∷◌, ◌++◌, length, take, drop, refl, sym, ap, ◌∙◌, subst, append_assoc, arith}
+use Rattle.std.proofs.Common.{◌≡◌, ℕ, ◌+◌, ◌^◌, ◌<◌, ◌≤◌, min, List, [], ◌∷◌, ◌++◌, length, take, drop, refl, sym, ap, ◌∙◌, subst, append_assoc, arith}
 use Rattle.std.proofs.lemmas.List.{length-append, length-take, length-drop, take-append-drop, drop-drop, append-nil, take_min, take-append-le, drop_all, take-take}
-use Rattle.std.specs.List.{flat_map, AllByRecursion}
 use Rattle.std.specs.Int.{w64, to_be_bytes}
 use Rattle.disk_model.specs.Disk.{ReadsAt}
-use Rattle.frame_journal.specs.Layout.{block, frame, frames, IsPayload, ArePayloads, EndsShut, IsBadFrame}
+use Rattle.frame_journal.specs.Layout.{block, frame, frames, IsPayload, ArePayloads, BreaksBehind}
 use Rattle.frame_journal.specs.Reading.{EndsAt, ReadUpTo, BeginsShut, BeginsBad, BeginsShort, BeginsWithLength, IsFrameAt}
 use Rattle.frame_journal.proofs.Spelling.{length-frame, length-block, block_length}
 
@@ -93,10 +92,8 @@ pub read_ends : (ps : List (List ℕ)) (place : ℕ) (file : List ℕ) → ReadU
 read_ends ps place file read shut = shut_ends ps place file (drop place file) read refl shut
 
 -- a bad frame is the one behind those that were read
-pub read_bad : (ps : List (List ℕ)) (place : ℕ) (file : List ℕ) → 1 < length file → ReadUpTo ps place file → BeginsBad (drop place file) → IsBadFrame (length ps) file
+pub read_bad : (ps : List (List ℕ)) (place : ℕ) (file : List ℕ) → 1 < length file → ReadUpTo ps place file → BeginsBad (drop place file) → BreaksBehind ps file
 read_bad ps place file long read bad = record {
-  before = ps;
-  count = refl;
   fit = read.fit;
   rest = bad.rest;
   split = read.split ∙ ap (λ l. frames ps ++ l) bad.split;

@@ -1,11 +1,13 @@
 pub mod Appending
 pub mod Committing
 pub mod Found
-pub mod Laws
 pub mod Leaving
+pub mod Openings
 pub mod Reopening
 pub mod Repairing
+pub mod Running
 pub mod Settled
 pub mod Shutting
 pub mod Spelling
+pub mod Stepping
 pub mod Told

@@ -1,9 +1,9 @@
 -- What a cut behind a gate, and a first gate, leave of a file.
-use Rattle.std.proofs.Common.{◌≡◌, ◌≢◌, inl, inr, ℕ, zero, suc, ◌+◌, ◌-◌, ◌≤◌, ◌<◌, min, max, List, [], ◌∷◌, ◌++◌, length, take, drop, refl, ap, sym, subst, ◌∙◌, arith}
-use Rattle.std.proofs.lemmas.List.{length-append, take_all, nil_from_length, drop_all}
+use Rattle.std.proofs.Common.{◌≡◌, inl, inr, ℕ, zero, suc, ◌+◌, ◌-◌, ◌≤◌, min, List, [], ◌∷◌, ◌++◌, length, take, refl, ap, sym, ◌∙◌, arith}
+use Rattle.std.proofs.lemmas.List.{length-append, take_all}
 use Rattle.disk_model.specs.Content.{TornWrite, TornCut, written_over}
-use Rattle.disk_model.specs.Overwriting.{take-append}
-use Rattle.frame_journal.specs.Layout.{frames, ArePayloads, EndsShut, OpensWith, IsAtRest}
+use Rattle.disk_model.proofs.Overwriting.{take-append}
+use Rattle.frame_journal.specs.Layout.{frames, OpensWith, IsAtRest}
 use Rattle.frame_journal.specs.Reading.{EndsAt}
 
 -- the front of a file up to its shut gate, and some of what stands behind

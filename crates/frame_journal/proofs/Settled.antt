@@ -1,5 +1,5 @@
 -- The steps of making a disk ready.
-use Rattle.std.proofs.Common.{◌≡◌, inl, inr, ℕ, ◌+◌, ◌≤◌, List, [], ◌∷◌, ◌++◌, length, take, refl, ap, sym, subst, ◌∙◌, arith}
+use Rattle.std.proofs.Common.{◌≡◌, inl, inr, ℕ, ◌+◌, ◌≤◌, List, [], ◌∷◌, length, take, refl, sym, subst, ◌∙◌, arith}
 use Rattle.disk_model.specs.Content.{Content, settled, write_change, cut_change}
 use Rattle.disk_model.specs.Disk.{OnTold, Syncs}
 use Rattle.disk_model.specs.Moments.{LeavesAfter}
@@ -9,7 +9,7 @@ use Rattle.frame_journal.specs.Resting.{IsResting}
 use Rattle.frame_journal.specs.Steps.{CutsSynced}
 use Rattle.frame_journal.proofs.Told.{told_from, told_from_two}
 use Rattle.frame_journal.proofs.Leaving.{IsReady, ready_from, same_leaves, then_syncs, now_synced, now_cut}
-use Rattle.frame_journal.proofs.Laws.{one_opening}
+use Rattle.frame_journal.proofs.Openings.{one_opening}
 use Rattle.frame_journal.proofs.Repairing.{cut_opens, cut_rests, first_opens}
 
 -- after the first sync, and calls that change nothing

@@ -1,7 +1,7 @@
 -- What a journal is seen as, and what a crash may leave of it.
-use Rattle.std.specs.Prelude.{ℕ, Bool, List, [], ◌∷◌, Option, Some, None}
+use Rattle.std.specs.Prelude.{◌⊎◌, ℕ, Bool, List, Option, Some, None}
 use Rattle.disk_model.specs.Content.{Content, LeavesOnly}
-use Rattle.frame_journal.specs.Layout.{OpensWith, OpensWithOneMore}
+use Rattle.frame_journal.specs.Layout.{OpensWith}
 
 pub record JournalState (D : Type 0) : Type 0 where
   pub disk : D
@@ -9,14 +9,14 @@ pub record JournalState (D : Type 0) : Type 0 where
   pub payloads : List (List ℕ)
   -- whether a device fault came since it was opened last
   pub closed : Bool
-  -- the frame whose append was refused since then
-  pub refused : Option (List ℕ)
+  -- what a crash may find in place of the acknowledged frames, since a call was refused with a device fault
+  pub pending : Option (List (List ℕ))
 
--- a file opens with the acknowledged frames, or with these and, whole at the end, the one that was refused
-abbrev pub MayOpenWith : List (List ℕ) → Option (List ℕ) → List ℕ → Type 0
+-- a file opens with the acknowledged frames, or with what is pending
+abbrev pub MayOpenWith : List (List ℕ) → Option (List (List ℕ)) → List ℕ → Type 0
 MayOpenWith payloads None file = OpensWith payloads file
-MayOpenWith payloads (Some payload) file = OpensWithOneMore payloads payload file
+MayOpenWith payloads (Some other) file = OpensWith payloads file ⊎ OpensWith other file
 
 -- what a crash at this moment may leave of a journal on a disk that tells this content
 abbrev pub LeavesJournal : {D : Type 0} → JournalState D → Content → Type 0
-LeavesJournal journal now = LeavesOnly now (MayOpenWith journal.payloads journal.refused)
+LeavesJournal journal now = LeavesOnly now (MayOpenWith journal.payloads journal.pending)

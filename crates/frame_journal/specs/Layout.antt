@@ -1,5 +1,5 @@
 -- One disk's layout: frames one behind the other, and a gate behind the last.
-use Rattle.std.specs.Prelude.{◌≡◌, ◌≢◌, ◌⊎◌, ℕ, ◌+◌, ◌^◌, ◌<◌, ◌≤◌, List, [], ◌∷◌, ◌++◌, length}
+use Rattle.std.specs.Prelude.{◌≡◌, ◌≢◌, ◌⊎◌, ℕ, ◌^◌, ◌<◌, ◌≤◌, List, [], ◌∷◌, ◌++◌, length}
 use Rattle.std.specs.List.{flat_map, AllByRecursion}
 use Rattle.std.specs.Int.{w64, to_be_bytes}
 
@@ -34,18 +34,19 @@ pub record EndsShut (payloads : List (List ℕ)) (file : List ℕ) : Type 0 wher
 abbrev pub OpensWith : List (List ℕ) → List ℕ → Type 0
 OpensWith payloads file = ((payloads ≡ []) × (length file ≤ 1)) ⊎ EndsShut payloads file
 
--- The frame of this number, counted from 0, has an open gate, and doesn't lie whole in the file with one more byte
--- behind it.
-pub record IsBadFrame (number : ℕ) (file : List ℕ) : Type 0 where
-  -- the frames before it
-  pub before : List (List ℕ)
-  pub count : length before ≡ number
-  pub fit : ArePayloads before
-  -- what the file has behind its gate
+-- Behind these frames a gate is open, and no frame lies whole there with one more byte behind it.
+pub record BreaksBehind (payloads : List (List ℕ)) (file : List ℕ) : Type 0 where
+  pub fit : ArePayloads payloads
+  -- what the file has behind that gate
   pub rest : List ℕ
-  pub split : file ≡ frames before ++ 1 ∷ rest
+  pub split : file ≡ frames payloads ++ 1 ∷ rest
   pub long : 1 < length file
   pub not_whole : (payload : List ℕ) (next : ℕ) (more : List ℕ) → IsPayload payload → rest ≡ block payload ++ next ∷ more → ⊥
+
+-- The frame of this number, counted from 0, has an open gate, and doesn't lie whole in the file with one more byte
+-- behind it.
+abbrev pub IsBadFrame : ℕ → List ℕ → Type 0
+IsBadFrame number file = (before : List (List ℕ)) × (length before ≡ number) × BreaksBehind before file
 
 -- a file opens with these payloads, or with these and one more
 abbrev pub OpensWithOneMore : List (List ℕ) → List ℕ → List ℕ → Type 0

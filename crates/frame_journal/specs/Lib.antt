@@ -1,3 +1,4 @@
+pub mod Calls
 pub mod JournalState
 pub mod Layout
 pub mod Reading

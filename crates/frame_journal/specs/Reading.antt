@@ -2,7 +2,9 @@
 use Rattle.std.specs.Prelude.{◌≡◌, ◌≢◌, ℕ, ◌+◌, ◌^◌, ◌<◌, List, [], ◌∷◌, ◌++◌, length, map, drop, Vec}
 use Rattle.std.specs.Int.{w64, to_be_bytes}
 use Rattle.std.specs.declared.alloc.Global.{Global}
-use Rattle.frame_journal.specs.Layout.{block, frame, frames, IsPayload, ArePayloads, EndsShut}
+use Rattle.frame_journal.specs.Layout.{block, frame, frames, IsPayload, ArePayloads, EndsShut, OpensWith, BreaksBehind}
+use Rattle.frame_journal.specs.declared.frames.Ending.{Ending}
+use Rattle.frame_journal.specs.declared.frames.Ending.TheVariants as ending
 use Rattle.frame_journal.specs.declared.frames.Found.{Found}
 use Rattle.frame_journal.specs.declared.frames.Found.TheVariants as found
 use Rattle.frame_journal.specs.declared.frames.Head.{Head}
@@ -16,6 +18,16 @@ payloads_of vectors = map (λ v. v.items) vectors
 pub record EndsAt (payloads : List (List ℕ)) (place : ℕ) (file : List ℕ) : Type 0 where
   pub ends : EndsShut payloads file
   pub at : place ≡ length (frames payloads)
+
+-- the whole frames of a file, and what stands behind them
+abbrev pub EndsAs : Ending → List (List ℕ) → ℕ → List ℕ → Type 0
+EndsAs ending.Shut payloads place file = EndsAt payloads place file
+EndsAs ending.Bad payloads place file = BreaksBehind payloads file
+
+-- the same of a file of any length
+abbrev pub IsWholeUpTo : Ending → List (List ℕ) → List ℕ → Type 0
+IsWholeUpTo ending.Shut payloads file = OpensWith payloads file
+IsWholeUpTo ending.Bad payloads file = BreaksBehind payloads file
 
 -- these are the first frames of a file, and end at this place
 pub record ReadUpTo (payloads : List (List ℕ)) (place : ℕ) (file : List ℕ) : Type 0 where

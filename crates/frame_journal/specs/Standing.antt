@@ -1,9 +1,12 @@
 -- How a journal stands with its disk.
-use Rattle.std.specs.Prelude.{◌≡◌, ℕ, ◌+◌, ◌^◌, ◌<◌, Bool, true, false, List, Option, Some, None}
+use Rattle.std.specs.Prelude.{ℕ, ◌+◌, ◌^◌, ◌<◌, Bool, true, false, List, [], ◌∷◌, ◌++◌, Option, Some, None, Vec}
+use Rattle.std.specs.declared.alloc.Global.{Global}
 use Rattle.disk_model.specs.Content.{Content, LeavesOnly}
 use Rattle.disk_model.specs.Disk.{OnTold}
 use Rattle.frame_journal.specs.Layout.{OpensWith, IsStaged}
 use Rattle.frame_journal.specs.Resting.{IsResting}
+use Rattle.frame_journal.specs.declared.commit.CommitFault.{CommitFault}
+use Rattle.frame_journal.specs.declared.commit.CommitFault.TheVariants.{AtBlock, AtGate}
 use Rattle.frame_journal.specs.declared.standing.Standing.{Standing}
 use Rattle.frame_journal.specs.declared.standing.Standing.TheVariants as standing
 
@@ -13,12 +16,12 @@ is_closed standing.Closed = true
 is_closed (standing.Refused payload) = true
 is_closed (standing.Staged payload) = true
 
--- the frame that was refused
-abbrev pub refused_of : Standing → Option (List ℕ)
-refused_of standing.Open = None
-refused_of standing.Closed = None
-refused_of (standing.Refused payload) = Some payload.items
-refused_of (standing.Staged payload) = Some payload.items
+-- what a crash may find in place of the acknowledged frames
+abbrev pub pending_of : Standing → List (List ℕ) → Option (List (List ℕ))
+pending_of standing.Open payloads = None
+pending_of standing.Closed payloads = None
+pending_of (standing.Refused payload) payloads = Some (payloads ++ payload.items ∷ [])
+pending_of (standing.Staged payload) payloads = Some (payloads ++ payload.items ∷ [])
 
 -- a disk that tells this content is as the journal takes it to be
 abbrev pub Stands : Standing → List (List ℕ) → ℕ → Content → Type 0
@@ -52,3 +55,8 @@ after_fault standing.Open = standing.Closed
 after_fault standing.Closed = standing.Closed
 after_fault (standing.Refused payload) = standing.Refused payload
 after_fault (standing.Staged payload) = standing.Staged payload
+
+-- a device fault came in an append
+abbrev pub refused_at : CommitFault → Vec ℕ Global → Standing
+refused_at AtBlock payload = standing.Refused payload
+refused_at AtGate payload = standing.Staged payload

@@ -1,7 +1,8 @@
 -- What the two device calls of a step do to a disk's contents.
-use Rattle.std.specs.Prelude.{◌≡◌, ℕ, ◌+◌, List, [], ◌∷◌, length, take, Result, Ok, Err}
-use Rattle.disk_model.specs.Content.{Content, written_over, settled, changed, write_change, cut_change}
-use Rattle.disk_model.specs.Disk.{FailsInPart}
+use Rattle.std.specs.Prelude.{◌≡◌, ℕ, ◌+◌, List, [], ◌∷◌, ◌++◌, length, take, Result, Ok, Err}
+use Rattle.disk_model.specs.Content.{Content, LeavesOnly, written_over, settled, changed, write_change, cut_change}
+use Rattle.frame_journal.specs.Layout.{OpensWith, IsStaged}
+use Rattle.frame_journal.specs.Resting.{IsResting}
 use Rattle.frame_journal.specs.declared.commit.CommitFault.{CommitFault}
 use Rattle.frame_journal.specs.declared.commit.CommitFault.TheVariants.{AtBlock, AtGate}
 
@@ -16,8 +17,8 @@ abbrev pub CutsSynced : ℕ → List Content → List Content → Type 0
 CutsSynced n [] new = new ≡ []
 CutsSynced n (now ∷ past) new = new ≡ settled (take n now.bytes) ∷ changed now (cut_change n now) (take n now.bytes) ∷ now ∷ past
 
--- The two steps of an append. Either fails, or both are made.
-abbrev pub CommitSteps : ℕ → List ℕ → Result (Unit {0}) CommitFault → List Content → List Content → Type 0
-CommitSteps gate block (Ok done) old new = (mid : List Content) × WritesSynced (gate + 1) block old mid × WritesSynced gate (1 ∷ []) mid new
-CommitSteps gate block (Err AtBlock) old new = FailsInPart (write_change (gate + 1) (length block)) old new
-CommitSteps gate block (Err AtGate) old new = (mid : List Content) × WritesSynced (gate + 1) block old mid × FailsInPart (write_change gate 1) mid new
+-- what stands behind an append, by its outcome
+abbrev pub CommitLeaves : Result (Unit {0}) CommitFault → List (List ℕ) → List ℕ → ℕ → Content → Type 0
+CommitLeaves (Ok done) payloads payload gate now = IsResting (payloads ++ payload ∷ []) (gate + (9 + length payload)) now
+CommitLeaves (Err AtBlock) payloads payload gate now = LeavesOnly now (OpensWith payloads)
+CommitLeaves (Err AtGate) payloads payload gate now = LeavesOnly now (IsStaged payloads payload gate)

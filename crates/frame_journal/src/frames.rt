@@ -1,10 +1,9 @@
 // Frames as they are read from a disk.
-ghost use Rattle.std.specs.Prelude.{◌≡◌, ℕ, ◌+◌, ◌^◌, ◌<◌, ◌≤◌, List, length, take, drop, IfOk, IfErr, IfSome, IsSomeAnd, OnErr, IsErrOf, ◌≢◌};
+ghost use Rattle.std.specs.Prelude.{◌≡◌, ℕ, ◌+◌, ◌^◌, ◌<◌, ◌≤◌, List, [], length, take, drop, IfOk, IfErr, IfSome, IsSomeAnd, OnErr, IsErrOf, ◌≢◌};
 ghost use Rattle.std.specs.Int.{w64, from_be_bytes, to_be_bytes};
 ghost use Rattle.fault_count.specs.Rose.{Rose};
 ghost use Rattle.disk_model.specs.Disk.{OnTold, ReadsAt};
-ghost use Rattle.frame_journal.specs.Layout.{IsBadFrame};
-ghost use Rattle.frame_journal.specs.Reading.{payloads_of, EndsAt, IsHeadOf, IsFoundAt, EndsWithin};
+ghost use Rattle.frame_journal.specs.Reading.{payloads_of, EndsAs, IsWholeUpTo, IsHeadOf, IsFoundAt, EndsWithin};
 
 use crate::error::OpenError;
 use disk_model::{Disk, Failed};
@@ -19,11 +18,22 @@ pub const SHUT: u8 = 0;
 /// How many bytes a frame has before its payload: the gate and the length.
 const HEAD_BYTES: usize = 9;
 
-/// The payloads of a disk, and the place of the shut gate behind them.
+/// What stands behind the whole frames of a disk.
+#[derive(Clone, Copy, Debug, PartialEq, Eq)]
+pub enum Ending {
+    /// A shut gate, or nothing, where the disk has at most one byte.
+    Shut,
+    /// An open gate, and no whole frame with one more byte behind it.
+    Bad,
+}
+
+/// The payloads of a disk's whole frames, in order.
 #[derive(Drop)]
 pub struct Frames {
     pub payloads: Vec<Vec<u8>>,
+    /// The place of the gate behind them.
     pub gate: u64,
+    pub ending: Ending,
 }
 
 // What stands at a place.
@@ -42,14 +52,44 @@ pub enum Head {
     Length(u64),
 }
 
-/// The frames up to the first shut gate, of a disk of `end` bytes.
+/// The whole frames of a disk, up to its first shut gate or bad frame, for who repairs it or only looks.
+/// They are those before the number of a `BadFrame`. Nothing is changed. It costs the disk's bytes,
+/// read once.
+pub fn whole_frames<D: Disk>(alloc: Global, disk: &mut D) -> Result<Frames, OpenError>
+    ensures read { IfOk result (λ read. OnTold (D.history disk.old) (λ now. IsWholeUpTo read.ending (payloads_of read.payloads.items) now.bytes)) }
+    ensures same { D.history disk.new ≡ D.history disk.old }
+    ensures no_bad { IfErr result (λ e. (n : ℕ) → e ≢ OpenError.BadFrame n) }
+    ensures counts { D.faults disk.old ≤ D.faults disk.new }
+    ensures failed { IsErrOf result OpenError.DiskFault → Rose (D.faults disk.old) (D.faults disk.new) }
+{
+    let end = disk.length()?;
+    if end <= 1 {
+        return Ok(no_frames(alloc));
+    }
+    read_frames(alloc, disk, end)
+}
+
+/// No frames, and a gate at place 0.
+pub fn no_frames(alloc: Global) -> Frames
+    ensures payloads { payloads_of result.payloads.items ≡ [] }
+    ensures gate { result.gate ≡ 0 }
+    ensures ending { result.ending ≡ Ending.Shut }
+{
+    Frames {
+        payloads: Vec::new(alloc),
+        gate: 0,
+        ending: Ending::Shut,
+    }
+}
+
+/// The whole frames of a disk of `end` bytes.
 pub fn read_frames<D: Disk>(alloc: Global, disk: &mut D, end: u64) -> Result<Frames, OpenError>
     requires some { 0 < end }
     requires long { OnTold (D.history disk.old) (λ now. (length now.bytes ≡ end) × (1 < end)) }
     requires bound { end < 2 ^ 63 }
-    ensures read { IfOk result (λ read. OnTold (D.history disk.old) (λ now. EndsAt (payloads_of read.payloads.items) read.gate now.bytes)) }
+    ensures read { IfOk result (λ read. OnTold (D.history disk.old) (λ now. EndsAs read.ending (payloads_of read.payloads.items) read.gate now.bytes)) }
     ensures within { IfOk result (λ read. read.gate < end) }
-    ensures bad { IfErr result (λ e. (n : ℕ) → e ≡ OpenError.BadFrame n → OnTold (D.history disk.old) (λ now. IsBadFrame n now.bytes)) }
+    ensures no_bad { IfErr result (λ e. (n : ℕ) → e ≢ OpenError.BadFrame n) }
     ensures same { D.history disk.new ≡ D.history disk.old }
     ensures counts { D.faults disk.old ≤ D.faults disk.new }
     ensures failed { IsErrOf result OpenError.DiskFault → Rose (D.faults disk.old) (D.faults disk.new) }
@@ -66,9 +106,16 @@ pub fn read_frames<D: Disk>(alloc: Global, disk: &mut D, end: u64) -> Result<Fra
                 return Ok(Frames {
                     payloads,
                     gate: place,
+                    ending: Ending::Shut,
                 });
             }
-            Found::Bad => return Err(OpenError::BadFrame(payloads.len() as u64)),
+            Found::Bad => {
+                return Ok(Frames {
+                    payloads,
+                    gate: place,
+                    ending: Ending::Bad,
+                });
+            }
         }
     }
 }
@@ -85,7 +132,7 @@ fn read_frame<D: Disk>(
     requires bound { end < 2 ^ 63 }
     ensures found { IfOk result (λ found. OnTold (D.history disk.old) (λ now. IsFoundAt found place now.bytes)) }
     ensures within { IfOk result (λ found. EndsWithin found place end) }
-    ensures no_bad { IfErr result (λ e. (n : ℕ) → e ≡ OpenError.BadFrame n → OnTold (D.history disk.old) (λ now. IsBadFrame n now.bytes)) }
+    ensures no_bad { IfErr result (λ e. (n : ℕ) → e ≢ OpenError.BadFrame n) }
     ensures same { D.history disk.new ≡ D.history disk.old }
     ensures counts { D.faults disk.old ≤ D.faults disk.new }
     ensures failed { IsErrOf result OpenError.DiskFault → Rose (D.faults disk.old) (D.faults disk.new) }

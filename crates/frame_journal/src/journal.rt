@@ -1,17 +1,18 @@
 // A journal.
 ghost use Rattle.std.specs.Prelude.{◌≡◌, ◌≢◌, ◌↔◌, ℕ, ◌≤◌, [], ◌∷◌, ◌++◌, List, Bool, true, false, IsTrue, Option, Some, None, IfOk, IfErr, OnOk, OnErr, IsErrOf};
 ghost use Rattle.fault_count.specs.Rose.{Rose};
-ghost use Rattle.disk_model.specs.Content.{LeavesOnly};
-ghost use Rattle.disk_model.specs.Disk.{OnTold};
-ghost use Rattle.disk_model.specs.Moments.{LeavesAfter, LeavesSince};
-ghost use Rattle.frame_journal.specs.Layout.{OpensWith, OpensWithOneMore, IsBadFrame};
+ghost use Rattle.disk_model.specs.Disk.{OnTold, calls_after};
+ghost use Rattle.disk_model.specs.Moments.{LeavesAfter};
+ghost use Rattle.frame_journal.specs.Layout.{OpensWith, IsBadFrame};
 ghost use Rattle.frame_journal.specs.Reading.{payloads_of};
-ghost use Rattle.frame_journal.specs.JournalState.{MayOpenWith, LeavesJournal};
+ghost use Rattle.frame_journal.specs.Resting.{Rests};
+ghost use Rattle.frame_journal.specs.JournalState.{LeavesJournal};
+ghost use Rattle.frame_journal.specs.Calls.{IsStep, append_call, reopen_call};
 
-use crate::commit::{CommitFault, block_of, commit};
+use crate::commit::{commit, entry_of};
 use crate::error::{AppendError, OpenError};
 use crate::settling::settle;
-use crate::standing::{Standing, shut_refused};
+use crate::standing::{Standing, ready_again};
 use disk_model::Disk;
 use std::alloc::Global;
 use std::marker::Model;
@@ -35,13 +36,13 @@ impl<D: Disk> Model for Journal<D> {
     ghost Value = { JournalState D };
 
     ghost use Rattle.frame_journal.specs.Reading.{payloads_of};
-    ghost use Rattle.frame_journal.specs.Standing.{is_closed, refused_of, IsSound};
+    ghost use Rattle.frame_journal.specs.Standing.{is_closed, pending_of, IsSound};
 
     ghost view = { λ j. record {
       disk = j.disk;
       payloads = payloads_of j.payloads.items;
       closed = is_closed j.standing;
-      refused = refused_of j.standing;
+      pending = pending_of j.standing (payloads_of j.payloads.items);
     } };
 
     ghost invariant = { λ j. IsSound (D.history j.disk) (payloads_of j.payloads.items) j.gate j.standing };
@@ -50,11 +51,13 @@ impl<D: Disk> Model for Journal<D> {
 impl<D: Disk> Journal<D> {
     /// Opens the journal of a disk: makes sure of what the disk holds, reads its frames up to the
     /// first shut gate, and cuts away what stands behind that. A disk of at most one byte is an
-    /// empty journal. It costs the disk's bytes, read once. The disk is handed back with a refusal.
+    /// empty journal. It costs the disk's bytes, read once. The disk is handed back with a refusal:
+    /// of one with a bad frame, `whole_frames` gives the frames before that.
     pub fn open_at(alloc: Global, disk: D) -> Result<Journal<D>, (OpenError, D)>
-        // The payloads are those that the disk opened with, and a crash keeps them.
+        // The payloads are those that the disk opened with. It is cut behind them, and a crash keeps them.
         ensures opens { IfOk result (λ journal. OnTold (D.history disk) (λ now. OpensWith journal.payloads now.bytes)) }
-        ensures open { IfOk result (λ journal. (journal.closed ≡ false) × (journal.refused ≡ None)) }
+        ensures open { IfOk result (λ journal. (journal.closed ≡ false) × (journal.pending ≡ None)) }
+        ensures rests { IfOk result (λ journal. OnTold (D.history journal.disk) (Rests journal.payloads)) }
         ensures durable { IfOk result (λ journal. OnTold (D.history journal.disk) (LeavesJournal journal)) }
 
         // A bad frame is there, and then no payloads are.
@@ -83,45 +86,39 @@ impl<D: Disk> Journal<D> {
         }
     }
 
-    /// Appends a payload. At `Ok` it is acknowledged: from then on each crash keeps it. It makes
-    /// four device calls, and costs the payload.
-    pub fn append(&mut self, alloc: Global, payload: &[u8]) -> Result<(), AppendError>
-        ensures ok { OnOk result (self.new.payloads ≡ self.old.payloads ++ payload.now ∷ []) }
+    /// Appends the payload that is `head` with `body` behind it. At `Ok` it is acknowledged: from then
+    /// on each crash keeps it. It makes four device calls, and costs the payload.
+    pub fn append(&mut self, alloc: Global, head: &[u8], body: &[u8]) -> Result<(), AppendError>
+        ensures ok { OnOk result (self.new.payloads ≡ self.old.payloads ++ (head.now ++ body.now) ∷ []) }
         ensures err { OnErr result (self.new.payloads ≡ self.old.payloads) }
-        ensures open { OnOk result ((self.new.closed ≡ false) × (self.new.refused ≡ None)) }
+        ensures open { OnOk result ((self.new.closed ≡ false) × (self.new.pending ≡ None)) }
 
-        // What a crash may leave then opens with the payloads, the new one among them.
-        ensures durable { OnTold (D.history self.new.disk) (LeavesJournal self.new) }
-
-        // At each moment of the call it opens with those from before it, with the new one or without.
-        ensures moments { self.old.closed ≡ false
-            → LeavesSince (D.history self.old.disk) (D.history self.new.disk) (OpensWithOneMore self.old.payloads payload.now) }
+        // What a crash may leave at each moment of the call, and then.
+        ensures step { IsStep D.history self.old (append_call (head.now ++ body.now) result) self.new }
+        ensures rests { OnOk result (OnTold (D.history self.new.disk) (Rests self.new.payloads)) }
 
         ensures closed { IsErrOf result AppendError.Closed ↔ (self.old.closed ≡ true) }
         ensures closed_stays { IsErrOf result AppendError.Closed → self.new ≡ self.old }
         ensures memory_stays { IsErrOf result AppendError.Memory → self.new ≡ self.old }
         ensures fault { IsErrOf result AppendError.DiskFault → Rose (D.faults self.old.disk) (D.faults self.new.disk) }
-        ensures fault_closes { IsErrOf result AppendError.DiskFault → (self.new.closed ≡ true) × (self.new.refused ≡ Some payload.now) }
+        ensures fault_closes { IsErrOf result AppendError.DiskFault
+            → (self.new.closed ≡ true) × (self.new.pending ≡ Some (self.old.payloads ++ (head.now ++ body.now) ∷ [])) }
+        ensures calls { OnOk result (D.calls self.new.disk ≡ calls_after (D.calls self.old.disk) 4) }
         ensures counts { D.faults self.old.disk ≤ D.faults self.new.disk }
     {
         if self.standing.is_closed() {
             return Err(AppendError::Closed);
         }
-        let block = block_of(alloc, payload)?;
-        let kept = Vec::from_slice(alloc, payload)?;
         self.payloads.reserve(1)?;
-        match commit(&mut self.disk, self.gate, &block) {
+        let entry = entry_of(alloc, head, body)?;
+        match commit(&mut self.disk, self.gate, &entry.block) {
             Ok(()) => {
-                self.payloads.push(kept).unwrap();
-                self.gate += block.len() as u64;
+                self.gate += entry.block.len() as u64;
+                self.payloads.push(entry.payload).unwrap();
                 Ok(())
             }
-            Err(CommitFault::AtBlock) => {
-                self.standing = Standing::Refused(kept);
-                Err(AppendError::DiskFault)
-            }
-            Err(CommitFault::AtGate) => {
-                self.standing = Standing::Staged(kept);
+            Err(fault) => {
+                self.standing = Standing::refused(fault, entry.payload);
                 Err(AppendError::DiskFault)
             }
         }
@@ -129,19 +126,19 @@ impl<D: Disk> Journal<D> {
 
     /// Opens the journal again on the same disk, as `open_at` does. Where a frame was refused whose
     /// gate may be open, that gate is shut first, and made sure of, so that the frame never stands
-    /// in a journal that goes on. Until it succeeds, the payloads and the refused frame stay.
+    /// in a journal that goes on. Until it succeeds, the payloads and what is pending stay.
     pub fn reopen(&mut self, alloc: Global) -> Result<(), OpenError>
-        ensures open { OnOk result ((self.new.closed ≡ false) × (self.new.refused ≡ None)) }
+        ensures open { OnOk result ((self.new.closed ≡ false) × (self.new.pending ≡ None)) }
 
         // Of a disk that tells what it holds the payloads stay.
         ensures ok { OnOk result (OnTold (D.history self.old.disk) (λ _. self.new.payloads ≡ self.old.payloads)) }
         ensures err { OnErr result (self.new.payloads ≡ self.old.payloads) }
-        ensures err_refused { OnErr result (self.new.refused ≡ self.old.refused) }
+        ensures err_pending { OnErr result (self.new.pending ≡ self.old.pending) }
         ensures err_closed { IfErr result (λ e. e ≢ OpenError.DiskFault → self.new.closed ≡ self.old.closed) }
 
-        // What a crash may leave then, and at each moment of the call.
-        ensures durable { OnTold (D.history self.new.disk) (LeavesJournal self.new) }
-        ensures moments { LeavesSince (D.history self.old.disk) (D.history self.new.disk) (MayOpenWith self.old.payloads self.old.refused) }
+        // What a crash may leave at each moment of the call, and then. The disk is cut behind the frames.
+        ensures step { IsStep D.history self.old (reopen_call result) self.new }
+        ensures rests { OnOk result (OnTold (D.history self.new.disk) (Rests self.new.payloads)) }
 
         // A bad frame comes only from a disk that doesn't tell what it holds.
         ensures bad { IfErr result (λ e. (n : ℕ) → e ≡ OpenError.BadFrame n → D.history self.old.disk ≡ []) }
@@ -149,22 +146,14 @@ impl<D: Disk> Journal<D> {
         ensures fault_closes { IsErrOf result OpenError.DiskFault → self.new.closed ≡ true }
         ensures counts { D.faults self.old.disk ≤ D.faults self.new.disk }
     {
-        if shut_refused(&mut self.disk, self.gate, &mut self.standing).is_err() {
-            return Err(OpenError::DiskFault);
-        }
-        match settle(alloc, &mut self.disk) {
+        match ready_again(alloc, &mut self.disk, self.gate, &mut self.standing) {
             Ok(read) => {
                 self.payloads = read.payloads;
                 self.gate = read.gate;
                 self.standing = Standing::Open;
                 Ok(())
             }
-            Err(OpenError::DiskFault) => {
-                self.standing.close();
-                Err(OpenError::DiskFault)
-            }
-            Err(OpenError::BadFrame(number)) => Err(OpenError::BadFrame(number)),
-            Err(OpenError::Memory) => Err(OpenError::Memory),
+            Err(error) => Err(error),
         }
     }
 

@@ -10,10 +10,12 @@ mod device;
 mod error;
 mod frames;
 mod journal;
+pub mod laws;
 mod settling;
 mod standing;
 #[cfg(test)]
 mod tests;
 
 pub use error::{AppendError, OpenError};
+pub use frames::{Ending, Frames, whole_frames};
 pub use journal::Journal;

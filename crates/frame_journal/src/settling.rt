@@ -9,7 +9,7 @@ ghost use Rattle.frame_journal.specs.Resting.{IsResting};
 
 use crate::device::{cut_synced, write_synced};
 use crate::error::OpenError;
-use crate::frames::{Frames, SHUT, read_frames};
+use crate::frames::{Ending, Frames, SHUT, no_frames, read_frames};
 use disk_model::Disk;
 use std::alloc::Global;
 
@@ -32,12 +32,14 @@ pub fn settle<D: Disk>(alloc: Global, disk: &mut D) -> Result<Frames, OpenError>
     let end = disk.length()?;
     if end <= 1 {
         write_synced(disk, 0, &[SHUT])?;
-        return Ok(Frames {
-            payloads: Vec::new(alloc),
-            gate: 0,
-        });
+        return Ok(no_frames(alloc));
     }
     let read = read_frames(alloc, disk, end)?;
-    cut_synced(disk, read.gate + 1)?;
-    Ok(read)
+    match read.ending {
+        Ending::Shut => {
+            cut_synced(disk, read.gate + 1)?;
+            Ok(read)
+        }
+        Ending::Bad => Err(OpenError::BadFrame(read.payloads.len() as u64)),
+    }
 }

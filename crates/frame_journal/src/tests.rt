@@ -30,9 +30,22 @@ fn open<D: Disk + Drop>(alloc: Global, disk: D) -> Result<Journal<D>, OpenError>
     Journal::open_at(alloc, disk).map_err(|refusal| refusal.0)
 }
 
-// Whether a journal has the first of the payloads, so many.
+// Appends a payload in two parts.
+fn put<D: Disk>(
+    journal: &mut Journal<D>,
+    alloc: Global,
+    payload: &[u8],
+) -> Result<(), AppendError> {
+    let (head, body) = payload.split_at(payload.len().min(1));
+    journal.append(alloc, head, body)
+}
+
 fn has_first<D: Disk>(journal: &Journal<D>, count: usize) -> bool {
-    let frames = journal.frames();
+    are_first(journal.frames(), count)
+}
+
+// Whether these are the first of the payloads, so many.
+fn are_first(frames: &[Vec<u8>], count: usize) -> bool {
     frames.len() == count
         && frames
             .iter()
@@ -49,7 +62,7 @@ fn run(alloc: Global, stop: u64) -> Result<(usize, MemDisk), AllocError> {
     };
     let mut acknowledged = 0usize;
     for payload in &PAYLOADS {
-        if journal.append(alloc, payload).is_err() {
+        if put(&mut journal, alloc, payload).is_err() {
             break;
         }
         acknowledged = acknowledged.saturating_add(1);
@@ -62,7 +75,9 @@ fn an_appended_frame_is_found(rt: HostRuntime) -> Result<(), Fail> {
     let alloc = rt.alloc();
     let mut journal = open(alloc, memory(alloc, b"", &[], None)?)?;
     assert!(rt; has_first(&journal, 0));
-    journal.append(alloc, b"abc").ok().ok_or("there is memory")?;
+    put(&mut journal, alloc, b"abc")
+        .ok()
+        .ok_or("there is memory")?;
     let disk = journal.into_disk();
     assert_eq!(rt; disk.bytes(), b"\x01\0\0\0\0\0\0\0\x03abc\0".as_slice());
     assert!(rt; has_first(&open(alloc, disk)?, 1));
@@ -101,12 +116,17 @@ fn a_cut_journal_opens_or_names_its_bad_frame(rt: HostRuntime) -> Result<(), Fai
     for length in 0..57usize {
         let cut = memory(alloc, &whole[..length.min(whole.len())], &[], None)?;
         let bad = ENDS.iter().filter(|end| **end < length).count();
-        match open(alloc, cut) {
+        match Journal::open_at(alloc, cut) {
             Ok(journal) => {
                 assert!(rt; length <= 1 || length == 56, "at {length}");
                 assert!(rt; has_first(&journal, bad), "at {length}");
             }
-            Err(error) => assert_eq!(rt; error, OpenError::BadFrame(bad as u64), "at {length}"),
+            Err((error, mut disk)) => {
+                assert_eq!(rt; error, OpenError::BadFrame(bad as u64), "at {length}");
+                let before = whole_frames(alloc, &mut disk).ok().ok_or("it is read")?;
+                assert_eq!(rt; before.ending, Ending::Bad);
+                assert!(rt; are_first(&before.payloads, bad), "at {length}");
+            }
         }
     }
     Ok(())
@@ -118,20 +138,20 @@ fn a_cut_journal_opens_or_names_its_bad_frame(rt: HostRuntime) -> Result<(), Fai
 fn a_refused_frame_is_gone_once_the_journal_is_open_again(rt: HostRuntime) -> Result<(), Fail> {
     let alloc = rt.alloc();
     let mut journal = open(alloc, memory(alloc, b"", &[10], None)?)?;
-    assert_eq!(rt; journal.append(alloc, PAYLOADS[0]), Ok(()));
+    assert_eq!(rt; put(&mut journal, alloc, PAYLOADS[0]), Ok(()));
     assert_eq!(rt;
-        journal.append(alloc, PAYLOADS[1]),
+        put(&mut journal, alloc, PAYLOADS[1]),
         Err(AppendError::DiskFault)
     );
     assert_eq!(rt;
-        journal.append(alloc, PAYLOADS[1]),
+        put(&mut journal, alloc, PAYLOADS[1]),
         Err(AppendError::Closed)
     );
     let image = journal.disk().image(alloc, Tear::Whole)?;
     assert!(rt; has_first(&open(alloc, MemDisk::new(alloc, image, &[], None)?)?, 2));
     assert_eq!(rt; journal.reopen(alloc), Ok(()));
     assert!(rt; has_first(&journal, 1));
-    assert_eq!(rt; journal.append(alloc, PAYLOADS[1]), Ok(()));
+    assert_eq!(rt; put(&mut journal, alloc, PAYLOADS[1]), Ok(()));
     assert!(rt; has_first(&open(alloc, journal.into_disk())?, 2));
     Ok(())
 }
@@ -144,7 +164,7 @@ fn a_file_keeps_a_journal(rt: HostRuntime) -> Result<(), Fail> {
     file.cut(0)?;
     let mut journal = open(alloc, file)?;
     for payload in &PAYLOADS {
-        assert_eq!(rt; journal.append(alloc, payload), Ok(()));
+        assert_eq!(rt; put(&mut journal, alloc, payload), Ok(()));
     }
     drop(journal);
     assert!(rt; has_first(&open(alloc, FileDisk::open(&rt, path)?)?, 4));

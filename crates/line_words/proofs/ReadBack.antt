@@ -10,7 +10,7 @@ use Rattle.std.proofs.lemmas.Str.Parse.{digit_from_value}
 use Rattle.std.specs.Str.Parse.{AllDigits}
 use Rattle.line_words.specs.declared.reading.Reading.{Reading}
 use Rattle.line_words.specs.declared.reading.Reading.TheVariants.{Free, Canonical}
-use Rattle.line_words.specs.Lines.{AreBytes, AreWords, Item, is_skipped, items_of, items_at, line_items, parts_of}
+use Rattle.line_words.specs.Lines.{AreBytes, AreWords, HasWords, Item, is_skipped, items_of, items_at, line_items, parts_of}
 use Rattle.line_words.specs.Places.{placed}
 use Rattle.line_words.specs.Spelling.{unescaped, word_of, space, percent, is_plain, spelled, escaped, written, upper_digit}
 use Rattle.line_words.proofs.Spellings.{read_back, only_escaped}
@@ -95,9 +95,6 @@ written_read reading (word ∷ words) h =
 
 -- ---- the canonical reading takes nothing else
 
-same_item : (i j : Item) (is js : List Item) → i ∷ is ≡ j ∷ js → (i ≡ j) × (is ≡ js)
-same_item i j is js h = (cc, cc)
-
 word_is : (part word : List ℕ) → word_of Canonical part ≡ Some word → (0 < length word) × AreBytes word × (part ≡ escaped word)
 word_is [] word h = absurd (cc)
 word_is (b ∷ bs) word h =
@@ -108,26 +105,35 @@ word_is (b ∷ bs) word h =
     longer [] e = absurd (cc)
     longer (c ∷ cs) e = omega arith
 
-canonical_parts : (at : ℕ) (parts words : List (List ℕ)) → items_of Canonical at parts ≡ placed at words → (parts ≡ map escaped words) × AreWords words
+canonical_parts : (at : ℕ) (parts words : List (List ℕ)) → HasWords (items_of Canonical at parts) words → (parts ≡ map escaped words) × AreWords words
 canonical_parts at [] [] h = (refl, tt)
 canonical_parts at [] (word ∷ words) h = absurd (cc)
 canonical_parts at (part ∷ parts) [] h = absurd (cc)
 canonical_parts at (part ∷ parts) (word ∷ words) h =
-    let same = same_item _ _ _ _ h in
-    let is : word_of Canonical part ≡ Some word = ap (λ i. i.word) same.0 in
+    let is : word_of Canonical part ≡ Some word = cc in
+    let more : HasWords (items_of Canonical (at + length part + 1) parts) words = cc in
     let told = word_is part word is in
-    let rest = canonical_parts (at + length part + 1) parts words (same.1 ∙ ap (λ p. placed (at + length p + 1) words) (sym told.2)) in
+    let rest = canonical_parts (at + length part + 1) parts words more in
     (ap₂ (λ p ps. p ∷ ps) told.2 rest.0, (told.0, told.1, rest.1))
 
-none_placed : (words : List (List ℕ)) → [] ≡ placed 0 words → ([] ≡ written words) × AreWords words
-none_placed [] h = (refl, tt)
-none_placed (word ∷ words) h = absurd (cc)
+no_words : (words : List (List ℕ)) → [] ≡ map Some words → ([] ≡ written words) × AreWords words
+no_words [] h = (refl, tt)
+no_words (word ∷ words) h = absurd (cc)
 
-pub read_written : (line : List ℕ) (words : List (List ℕ)) → line_items Canonical line ≡ placed 0 words → (line ≡ written words) × AreWords words
-read_written [] words h = none_placed words h
-read_written (b ∷ bs) words h =
+-- a line that is read canonically as these words is the one that a writer writes of them
+pub read_words : (line : List ℕ) (words : List (List ℕ)) → HasWords (line_items Canonical line) words → (line ≡ written words) × AreWords words
+read_words [] words h = no_words words h
+read_words (b ∷ bs) words h =
     let told = canonical_parts 0 (parts_of (b ∷ bs)) words h in
     (sym (join_with_byte-slice_split space (b ∷ bs)) ∙ ap (join_with_byte space) told.0, told.1)
+
+-- placed words are words
+pub words_placed : (at : ℕ) (words : List (List ℕ)) → HasWords (placed at words) words
+words_placed at [] = refl
+words_placed at (word ∷ words) = ap (λ ws. Some word ∷ ws) (words_placed (at + length (escaped word) + 1) words)
+
+pub read_written : (line : List ℕ) (words : List (List ℕ)) → line_items Canonical line ≡ placed 0 words → (line ≡ written words) × AreWords words
+read_written line words h = read_words line words (ap (map (λ i. i.word)) h ∙ words_placed 0 words)
 
 -- ---- words behind others
 

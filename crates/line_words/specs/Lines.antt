@@ -1,5 +1,5 @@
 -- A line as a list of words, each with its place.
-use Rattle.std.specs.Prelude.{ℕ, ◌+◌, ◌<◌, ◌==◌, Bool, true, false, cond, List, [], ◌∷◌, length, Option}
+use Rattle.std.specs.Prelude.{ℕ, ◌+◌, ◌<◌, ◌==◌, Bool, true, false, cond, List, [], ◌∷◌, length, Option, ◌≡◌, map, Some}
 use Rattle.std.specs.List.{slice_split}
 use Rattle.line_words.specs.Spelling.{space, word_of}
 use Rattle.line_words.specs.declared.reading.Reading.{Reading}
@@ -36,6 +36,10 @@ items_at reading at bytes = items_of reading at (parts_of bytes)
 abbrev pub line_items : Reading → List ℕ → List Item
 line_items reading [] = []
 line_items reading (b ∷ bs) = items_at reading 0 (b ∷ bs)
+
+-- each item is spelt as a word, and these are the words
+abbrev pub HasWords : List Item → List (List ℕ) → Type 0
+HasWords items words = map (λ i. i.word) items ≡ map Some words
 
 -- each of these numbers is a byte
 abbrev pub AreBytes : List ℕ → Type 0

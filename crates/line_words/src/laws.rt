@@ -1,6 +1,6 @@
 //! Laws of words and lines, for every word and every line.
 ghost use Rattle.std.specs.Prelude.{◌≡◌, ◌++◌, ◌∷◌, ◌+◌, ◌<◌, ◌^◌, ℕ, List, [], Some, decimal, length};
-ghost use Rattle.line_words.specs.Lines.{AreBytes, AreWords, items_at, line_items};
+ghost use Rattle.line_words.specs.Lines.{AreBytes, AreWords, HasWords, items_at, line_items};
 ghost use Rattle.line_words.specs.Places.{placed};
 ghost use Rattle.line_words.specs.Spelling.{escaped, space, unescaped, written};
 ghost use Rattle.line_words.specs.declared.reading.Reading.{Reading};
@@ -17,6 +17,7 @@ pub fn one_spelling()
 pub fn written_is_read()
     ensures read { (reading : Reading) (words : List (List ℕ)) → AreWords words → line_items reading (written words) ≡ placed 0 words }
     ensures alone { (line : List ℕ) (words : List (List ℕ)) → line_items Canonical line ≡ placed 0 words → (line ≡ written words) × AreWords words }
+    ensures words { (line : List ℕ) (words : List (List ℕ)) → HasWords (line_items Canonical line) words → (line ≡ written words) × AreWords words }
 {}
 
 /// Words behind others: what stands before a space of a line and what stands behind it are read on their own, and a writer

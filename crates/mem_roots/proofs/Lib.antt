@@ -1,8 +1,10 @@
 pub mod Calling
 pub mod Fitting
-pub mod ListedRows
+pub mod Marking
 pub mod Naming
+pub mod Parents
 pub mod Recording
 pub mod Rows
 pub mod Running
+pub mod Sharing
 pub mod Views

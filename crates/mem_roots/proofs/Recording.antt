@@ -6,21 +6,22 @@ use Rattle.std.proofs.lemmas.List.{take_at}
 use Rattle.std.proofs.lemmas.List.Sums.{sum_by-append, sum_by_push, sum_by-le-sum_by}
 use Rattle.std.specs.Option.{option_map}
 use Rattle.roots_api.specs.Answers.{is_done, is_dropped, is_full, is_failed}
+use Rattle.roots_api.specs.Asked.{IsAsked, IsMade}
 use Rattle.roots_api.specs.Logs.{state_of, log_size, bytes_held, asked_in, rows_in, event_size, appended_by, staged_bytes, is_asked, logged, spanned, offset_of}
 use Rattle.roots_api.specs.States.{RootState, new_root, kept_by, staged_by, with_staged}
 use Rattle.roots_api.specs.Steps.{answer_of, after, done, drop_file}
 use Rattle.roots_api.specs.Edits.{edited, refused_at, first_of}
 use Rattle.roots_api.specs.Told.{IsSession, call_event, edit_event, edit_error, refused_by, put_by}
 use Rattle.roots_api.specs.declared.edit.Edit.{Edit}
-use Rattle.roots_api.specs.declared.edit.Edit.TheVariants.{Put, Link, Dir, Other, Del}
+use Rattle.roots_api.specs.declared.edit.Edit.TheVariants.{Put, Link, Dir, Other, SetExec as SetBit, Del}
 use Rattle.roots_api.specs.declared.edit_error.EditError.TheVariants.{LogFull, BytesFull}
 use Rattle.entry_tree.specs.declared.entry.Entry.{Entry}
 use Rattle.roots_api.specs.declared.answer.Answer.{Answer}
-use Rattle.roots_api.specs.declared.answer.Answer.TheVariants.{Listed, Held, Piece, Changed, TooLarge, Cleared, Opened, Kept, NotStaged, DigestDiffers, Done, NoParent, Differs, NoLink, NotEmpty, Full, Failed}
+use Rattle.roots_api.specs.declared.answer.Answer.TheVariants.{Listed, Held, Piece, Changed, TooLarge, Cleared, Opened, Kept, NotStaged, DigestDiffers, Done, NoParent, Differs, NoLink, NoExec, NotEmpty, Full, Failed}
 use Rattle.roots_api.specs.declared.event.Event.{Event}
 use Rattle.roots_api.specs.declared.limits.TheConstants.{MAX_LOG_SIZE, MAX_BYTES_HELD}
 use Rattle.roots_api.specs.declared.op.Op.{Op}
-use Rattle.roots_api.specs.declared.op.Op.TheVariants.{List as OpList, Fetch, StageClear, StageOpen, StageAppend, StageKeep, Place, MakeDir, MakeLink, Remove}
+use Rattle.roots_api.specs.declared.op.Op.TheVariants.{List as OpList, Fetch, StageClear, StageOpen, StageAppend, StageKeep, Place, MakeDir, MakeLink, Remove, SetExec}
 use Rattle.roots_api.specs.declared.who.Who.{Who}
 use Rattle.roots_api.specs.declared.who.Who.TheVariants.{Editor, Session}
 use Rattle.roots_api.proofs.Folds.{after_events-append, legal_push}
@@ -51,6 +52,7 @@ module _ (offset : ℕ) where
   alike (NoParent found) = record { dropped = refl; failed = refl; rows = refl }
   alike (Differs found) = record { dropped = refl; failed = refl; rows = refl }
   alike NoLink = record { dropped = refl; failed = refl; rows = refl }
+  alike NoExec = record { dropped = refl; failed = refl; rows = refl }
   alike NotEmpty = record { dropped = refl; failed = refl; rows = refl }
   alike (Full room) = record { dropped = refl; failed = refl; rows = refl }
   alike Failed = record { dropped = refl; failed = refl; rows = refl }
@@ -72,11 +74,11 @@ module _ (s : RootState) (id : ℕ) {B : Type 0} (answer : Answer B) where
   sum_stays : (op : Op) → (done s id op).ledger ≡ s.ledger → sum_by length (after s id op answer).ledger ≡ sum_by length s.ledger + 0
   sum_stays op h = ap (sum_by length) (ledger_stays op h) ∙ omega arith
 
-  placed : (path : List (List ℕ)) (digest : List ℕ) (expected : Option Entry) (bytes : List ℕ) → unwrap_or (kept_by s id digest) [] ≡ bytes
-      → sum_by length (after s id (Place path digest expected) answer).ledger ≡ sum_by length s.ledger + length (cond (is_done answer) bytes [])
-  placed path digest expected bytes is =
+  placed : (path : List (List ℕ)) (digest : List ℕ) (exec : Bool) (expected : Option Entry) (bytes : List ℕ) → unwrap_or (kept_by s id digest) [] ≡ bytes
+      → sum_by length (after s id (Place path digest exec expected) answer).ledger ≡ sum_by length s.ledger + length (cond (is_done answer) bytes [])
+  placed path digest exec expected bytes is =
       let dropped = with_staged s id (drop_file (staged_by s id)) in
-      let op = Place path digest expected in
+      let op = Place path digest exec expected in
       elim (is_done answer) as (λ b. sum_by length (cond b (done s id op) (cond (is_dropped answer) dropped s)).ledger ≡ sum_by length s.ledger + length (cond b bytes [])) [
         | true ↦ ap (λ (bs : List ℕ). sum_by length (s.ledger ++ bs ∷ [])) is ∙ sum_by-append length s.ledger (bytes ∷ []) ∙ omega arith
         | false ↦ elim (is_dropped answer) as (λ b. sum_by length (cond b dropped s).ledger ≡ sum_by length s.ledger + 0) [ true ↦ omega arith | false ↦ omega arith ]
@@ -91,10 +93,11 @@ ledger_after s id StageClear answer = sum_stays s id answer StageClear refl
 ledger_after s id StageOpen answer = sum_stays s id answer StageOpen refl
 ledger_after s id (StageAppend bytes) answer = sum_stays s id answer (StageAppend bytes) refl
 ledger_after s id (StageKeep digest) answer = sum_stays s id answer (StageKeep digest) refl
-ledger_after s id (Place path digest expected) answer = placed s id answer path digest expected (unwrap_or (kept_by s id digest) []) refl
+ledger_after s id (Place path digest exec expected) answer = placed s id answer path digest exec expected (unwrap_or (kept_by s id digest) []) refl
 ledger_after s id (MakeDir path) answer = sum_stays s id answer (MakeDir path) refl
 ledger_after s id (MakeLink path text expected) answer = sum_stays s id answer (MakeLink path text expected) refl
 ledger_after s id (Remove path expected) answer = sum_stays s id answer (Remove path expected) refl
+ledger_after s id (SetExec path expected on) answer = sum_stays s id answer (SetExec path expected on) refl
 
 pub count-push : {X : Type 0} (p : X → Bool) (xs : List X) (x : X) → count_by p (xs ++ x ∷ []) ≡ count_by p xs + cond (p x) 1 0
 count-push p xs x = sum_by_push (λ y. cond (p y) 1 0) xs x
@@ -107,10 +110,11 @@ one_of s id StageClear answer = inl refl
 one_of s id StageOpen answer = inl refl
 one_of s id (StageAppend bytes) answer = inr refl
 one_of s id (StageKeep digest) answer = inl refl
-one_of s id (Place path digest expected) answer = inl refl
+one_of s id (Place path digest exec expected) answer = inl refl
 one_of s id (MakeDir path) answer = inl refl
 one_of s id (MakeLink path text expected) answer = inl refl
 one_of s id (Remove path expected) answer = inl refl
+one_of s id (SetExec path expected on) answer = inl refl
 
 no_bytes : (s : RootState) (id : ℕ) (op : Op) (answer : Answer (List ℕ)) → is_done answer ≡ false → length (placed_by s id op answer) ≡ 0
 no_bytes s id (OpList path) answer h = refl
@@ -119,10 +123,11 @@ no_bytes s id StageClear answer h = refl
 no_bytes s id StageOpen answer h = refl
 no_bytes s id (StageAppend bytes) answer h = refl
 no_bytes s id (StageKeep digest) answer h = refl
-no_bytes s id (Place path digest expected) answer h = ap (λ b. length (cond b (unwrap_or (kept_by s id digest) []) [])) h
+no_bytes s id (Place path digest exec expected) answer h = ap (λ b. length (cond b (unwrap_or (kept_by s id digest) []) [])) h
 no_bytes s id (MakeDir path) answer h = refl
 no_bytes s id (MakeLink path text expected) answer h = refl
 no_bytes s id (Remove path expected) answer h = refl
+no_bytes s id (SetExec path expected on) answer h = refl
 
 -- what is so where a root's answer is logged
 pub record Fits (log : List Event) (id : ℕ) (op : Op) (answer : Answer (List ℕ)) : Type 0 where
@@ -179,11 +184,11 @@ module _ (log : List Event) (id run cycle : ℕ) (op : Op) (answer : Answer (Lis
   asked_longer = count-push is_asked log (call_event (Session id run cycle) op answer)
 
 -- a log with one operation more, its state and its sizes
-pub recorded : (log : List Event) (state : RootState) (sizes : Sizes) (who : Who) (op : Op) (answer : Answer (List ℕ)) → IsSession who → IsOfLog log state sizes → Fits log (id_of who) op answer
+pub recorded : (log : List Event) (state : RootState) (sizes : Sizes) (who : Who) (op : Op) (answer : Answer (List ℕ)) → IsSession who → IsAsked op → IsOfLog log state sizes → Fits log (id_of who) op answer
     → IsOfLog (log ++ call_event who op answer ∷ []) (after state (id_of who) op answer)
     (sizes_with sizes (rows_in answer) (length (appended_by op)) (length (placed_by state (id_of who) op answer)))
-recorded log state sizes Editor op answer session old fit = absurd session
-recorded log state sizes (Session id run cycle) op answer session old fit =
+recorded log state sizes Editor op answer session can old fit = absurd session
+recorded log state sizes (Session id run cycle) op answer session can old fit =
     let s = state_of log in
     let state_is = old.state_is in
     let before = old.sizes_are in
@@ -201,7 +206,7 @@ recorded log state sizes (Session id run cycle) op answer session old fit =
       state_is = ap (λ (t : RootState). after t id op answer) state_is ∙ sym (state_longer log id run cycle op answer);
       sizes_are = λ i. record { log = log_is i; bytes = bytes_is i; asked = asked_is i };
       legal = legal_push new_root log (call_event (Session id run cycle) op answer) old.legal
-          (elim fit.row [ inl e ↦ inl (ap (logged op) e) | inr e ↦ inr (ap (logged op) e) ]);
+          (record { asked = can; row = elim fit.row [ inl e ↦ inl (ap (logged op) e) | inr e ↦ inr (ap (logged op) e) ] });
       log_fits = let f = fit.size in omega arith;
       bytes_fit = let f = fit.bytes in omega arith;
     }
@@ -212,6 +217,7 @@ ledger_edited s (Put path bytes) = sum_by-append length s.ledger (bytes ∷ []) 
 ledger_edited s (Link path text) = omega arith
 ledger_edited s (Dir path) = omega arith
 ledger_edited s (Other path) = omega arith
+ledger_edited s (SetBit path on) = omega arith
 ledger_edited s (Del path) = omega arith
 
 first_none : {X : Type 0} (a b : Option X) → first_of a b ≡ None → (a ≡ None) × (b ≡ None)
@@ -246,9 +252,9 @@ may_edit log edit h =
     }
 
 -- a log with one edit more, its state and its sizes
-pub recorded_edit : (log : List Event) (state : RootState) (sizes : Sizes) (edit : Edit) → IsOfLog log state sizes → MayEdit log edit
+pub recorded_edit : (log : List Event) (state : RootState) (sizes : Sizes) (edit : Edit) → IsMade edit → IsOfLog log state sizes → MayEdit log edit
     → IsOfLog (log ++ edit_event edit ∷ []) (edited state edit) (sizes_edited sizes (length (put_by edit)))
-recorded_edit log state sizes edit old fit =
+recorded_edit log state sizes edit made old fit =
     let before = old.sizes_are in
     let longer : state_of (log ++ edit_event edit ∷ []) ≡ edited (state_of log) edit = after_events-append new_root log (edit_event edit ∷ []) in
     let size = sum_by-append event_size log (edit_event edit ∷ []) in
@@ -264,7 +270,7 @@ recorded_edit log state sizes edit old fit =
     record {
       state_is = ap (λ (t : RootState). edited t edit) old.state_is ∙ sym longer;
       sizes_are = λ i. record { log = log_is i; bytes = bytes_is i; asked = asked_is i };
-      legal = legal_push new_root log (edit_event edit) old.legal (fit.allowed, refl);
+      legal = legal_push new_root log (edit_event edit) old.legal (record { made = made; allowed = fit.allowed; done = refl });
       log_fits = let f = fit.size in omega arith;
       bytes_fit = let f = fit.bytes in omega arith;
     }
@@ -324,15 +330,22 @@ module _ (m : MemState) (log : List Event) (state : RootState) (sizes : Sizes) (
       let asked = asked_fits log in
       record { log = omega arith; bytes = omega arith; asked = omega arith }
 
-  pub logged_of : IsSession who → (event : Event) (longer : List Event) (next : RootState) (more : Sizes) → event ≡ call_event who op answer → longer ≡ log ++ event ∷ [] → next ≡ after state id op answer
+  -- it is the row's on the root's state, or Failed
+  pub row_here : (answer ≡ Failed) ⊎ (answer ≡ answer_of state id op)
+  row_here = elim fits_here.row [
+    | inl e ↦ inl e
+    | inr e ↦ inr (e ∙ (λ i. answer_of (sym old.state_is i) (sym id_is i) op))
+  ]
+
+  pub logged_of : IsSession who → IsAsked op → (event : Event) (longer : List Event) (next : RootState) (more : Sizes) → event ≡ call_event who op answer → longer ≡ log ++ event ∷ [] → next ≡ after state id op answer
       → more ≡ sizes_with sizes (rows_in answer) (length (appended_by op)) placed → IsOfLog longer next more
-  logged_of session event longer next more event_is longer_is next_is more_is =
+  logged_of session can event longer next more event_is longer_is next_is more_is =
       same_of_log (log ++ call_event who op answer ∷ []) longer (after state (id_of who) op answer) next
       (sizes_with sizes (rows_in answer) (length (appended_by op)) (length (placed_by state (id_of who) op answer))) more
       (longer_is ∙ ap (λ (e : Event). log ++ e ∷ []) event_is)
       (next_is ∙ ap (λ (i : ℕ). after state i op answer) id_is)
       (more_is ∙ ap (λ (n : ℕ). sizes_with sizes (rows_in answer) (length (appended_by op)) n) placed_here)
-      (recorded log state sizes who op answer session old fits_here)
+      (recorded log state sizes who op answer session can old fits_here)
 
 -- a log from which the event that was pushed was taken again
 pub popped_of : (log longer popped : List Event) (e : Event) (state back : RootState) (sizes : Sizes) → longer ≡ log ++ e ∷ [] → popped ≡ take (length longer - 1) longer → back ≡ state → IsOfLog log state sizes → IsOfLog popped back sizes
@@ -349,6 +362,10 @@ module _ (m : MemState) (log : List Event) (state : RootState) (sizes : Sizes) (
   may_here : MayEdit log edit
   may_here = may_edit log edit (ap (λ (l : List Event). edit_error l edit) same ∙ none)
 
+  -- nothing in the tree speaks against it
+  pub edit_allowed : refused_at state.tree edit ≡ None
+  edit_allowed = ap (λ (s : RootState). refused_at s.tree edit) old.state_is ∙ may_here.allowed
+
   pub edit_log_room : sizes.log + 1 ≤ MAX_LOG_SIZE
   edit_log_room =
       let size = may_here.size in
@@ -361,8 +378,8 @@ module _ (m : MemState) (log : List Event) (state : RootState) (sizes : Sizes) (
       let at_bytes : sizes.bytes ≡ bytes_held log = ap (λ (z : Sizes). z.bytes) old.sizes_are in
       omega arith
 
-  pub edited_of : (event : Event) (longer : List Event) (next : RootState) (more : Sizes) → event ≡ edit_event edit → longer ≡ log ++ event ∷ [] → next ≡ edited state edit → more ≡ sizes_edited sizes put → IsOfLog longer next more
-  edited_of event longer next more event_is longer_is next_is more_is =
+  pub edited_of : IsMade edit → (event : Event) (longer : List Event) (next : RootState) (more : Sizes) → event ≡ edit_event edit → longer ≡ log ++ event ∷ [] → next ≡ edited state edit → more ≡ sizes_edited sizes put → IsOfLog longer next more
+  edited_of made event longer next more event_is longer_is next_is more_is =
       same_of_log (log ++ edit_event edit ∷ []) longer (edited state edit) next (sizes_edited sizes (length (put_by edit))) more
       (longer_is ∙ ap (λ (e : Event). log ++ e ∷ []) event_is) next_is (more_is ∙ ap (sizes_edited sizes) put_is)
-      (recorded_edit log state sizes edit old may_here)
+      (recorded_edit log state sizes edit made old may_here)

@@ -1,15 +1,18 @@
 -- What a root in memory answers, and what it makes of its log.
-use Rattle.std.specs.Prelude.{◌≡◌, ℕ, ◌+◌, ◌-◌, ◌^◌, ◌==◌, Bool, ◌||◌, cond, List, [], ◌∷◌, ◌++◌, length, min, nat_lt, unwrap_or, Result, Ok, Err}
+use Rattle.std.specs.Prelude.{◌≡◌, ℕ, ◌+◌, ◌-◌, ◌^◌, ◌==◌, Bool, ◌||◌, cond, List, [], ◌∷◌, ◌++◌, length, min, nat_lt, unwrap_or, Result, Ok, Err, Some, None, ◌⊎◌}
 use Rattle.std.specs.List.{list_any}
 use Rattle.std.specs.declared.alloc.AllocError.{AllocError}
 use Rattle.roots_api.specs.Answers.{is_done, is_full}
 use Rattle.roots_api.specs.Logs.{state_of, log_size, bytes_held, asked_in, rows_in, appended_by}
 use Rattle.roots_api.specs.States.{RootState, kept_by}
 use Rattle.roots_api.specs.Steps.{answer_of}
-use Rattle.roots_api.specs.Told.{call_event}
+use Rattle.roots_api.specs.Told.{call_event, edit_event, edit_error}
 use Rattle.roots_api.specs.declared.answer.Answer.{Answer}
 use Rattle.roots_api.specs.declared.answer.Answer.TheVariants.{Full, Failed}
 use Rattle.roots_api.specs.declared.answer.Room.{Room}
+use Rattle.roots_api.specs.declared.edit.Edit.{Edit}
+use Rattle.roots_api.specs.declared.edit_error.EditError.{EditError}
+use Rattle.roots_api.specs.declared.edit_error.EditError.TheVariants.{Memory}
 use Rattle.roots_api.specs.declared.event.Event.{Event}
 use Rattle.roots_api.specs.declared.limits.TheConstants.{MAX_LOG_SIZE, MAX_BYTES_HELD}
 use Rattle.roots_api.specs.declared.op.Op.{Op}
@@ -47,7 +50,7 @@ is_to_fail m = list_any (λ n. asked_in m.log == n) m.fails
 
 -- the bytes that an operation with this answer adds to the ledger
 abbrev pub placed_by : RootState → ℕ → Op → Answer (List ℕ) → List ℕ
-placed_by s id (Place path digest expected) answer = cond (is_done answer) (unwrap_or (kept_by s id digest) []) []
+placed_by s id (Place path digest exec expected) answer = cond (is_done answer) (unwrap_or (kept_by s id digest) []) []
 placed_by s id op answer = []
 
 -- whether they would pass the limit
@@ -82,3 +85,12 @@ mem_after m who op answer = cond (is_full answer) (with_full m) (with_event m (c
 abbrev pub Leads : MemState → Who → Op → Result (Answer (List ℕ)) AllocError → MemState → Type 0
 Leads old who op (Ok answer) new = (answer ≡ mem_answer old who op) × (new ≡ mem_after old who op answer)
 Leads old who op (Err error) new = new ≡ old
+
+-- what an editor's change comes to where there is memory: it is one event, or refused for its cause
+abbrev pub Decides : MemState → Edit → Result Unit EditError → MemState → Type 0
+Decides old edit (Ok done) new = (edit_error old.log edit ≡ None) × (new ≡ with_event old (edit_event edit))
+Decides old edit (Err error) new = (edit_error old.log edit ≡ Some error) × (new ≡ old)
+
+-- from which root to which an outcome of a change leads; without memory all stays as it was
+abbrev pub Edits : MemState → Edit → Result Unit EditError → MemState → Type 0
+Edits old edit result new = Decides old edit result new ⊎ ((result ≡ Err Memory) × (new ≡ old))

@@ -1,12 +1,18 @@
 -- The roots A to H in memory.
-use Rattle.std.specs.Prelude.{◌≡◌, ℕ, ◌+◌, ◌-◌, true, false, ◌&&◌, cond, List, [], ◌∷◌, Option, Some, None, is_some, nat_le, slice_index_or, refl}
+use Rattle.std.specs.Prelude.{◌≡◌, ℕ, ◌+◌, ◌-◌, true, false, ◌&&◌, cond, List, [], ◌∷◌, Option, Some, None, Result, is_some, nat_le, slice_index_or, slice_set, refl}
+use Rattle.std.specs.declared.alloc.AllocError.{AllocError}
 use Rattle.std.proofs.Common.{sym, ap, ◌∙◌}
 use Rattle.std.proofs.Math.Nat.{sub-add_cancel}
 use Rattle.std.proofs.lemmas.Bool.{false≢true, leb-true}
-use Rattle.roots_api.specs.Logs.{failed_in}
+use Rattle.roots_api.specs.Logs.{IsLegal, failed_in}
+use Rattle.roots_api.specs.declared.answer.Answer.{Answer}
+use Rattle.roots_api.specs.declared.edit.Edit.{Edit}
+use Rattle.roots_api.specs.declared.edit_error.EditError.{EditError}
 use Rattle.roots_api.specs.declared.event.Event.{Event}
+use Rattle.roots_api.specs.declared.op.Op.{Op}
 use Rattle.roots_api.specs.declared.root_id.RootId.{RootId}
-use Rattle.mem_roots.specs.MemRoot.{MemState, new_mem}
+use Rattle.roots_api.specs.declared.who.Who.{Who}
+use Rattle.mem_roots.specs.MemRoot.{MemState, new_mem, Leads, Edits}
 
 -- the root of a name: A (65) to H have the numbers 0 to 7
 unfoldable pub named_root : List ℕ → Option RootId
@@ -29,6 +35,18 @@ faults_at roots root = failed_in (root_at roots root).log
 -- how many times it answered Full
 abbrev pub fulls_at : List MemState → RootId → ℕ
 fulls_at roots root = (root_at roots root).full_answers
+
+-- each log is legal
+abbrev pub AreLegalLogs : List MemState → Type 0
+AreLegalLogs roots = (root : RootId) → IsLegal (root_at roots root).log
+
+-- from which roots to which an answer of one of them leads: the others stay
+abbrev pub RootLeads : List MemState → RootId → Who → Op → Result (Answer (List ℕ)) AllocError → List MemState → Type 0
+RootLeads old root who op result new = Leads (root_at old root) who op result (root_at new root) × (new ≡ slice_set old root.0 (root_at new root))
+
+-- and an outcome of a change of one of them
+abbrev pub RootEdits : List MemState → RootId → Edit → Result Unit EditError → List MemState → Type 0
+RootEdits old root edit result new = Edits (root_at old root) edit result (root_at new root) × (new ≡ slice_set old root.0 (root_at new root))
 
 number_of : Option RootId → ℕ
 number_of None = 0

@@ -1,4 +1,4 @@
-// The checks of operations on a tree.
+//! The checks of operations on a tree.
 ghost use Rattle.std.specs.Prelude.{◌≡◌, ◌&&◌, cond, None, IfOk};
 ghost use Rattle.std.specs.FinMap as map;
 ghost use Rattle.std.specs.Option.{option_copied};
@@ -7,9 +7,9 @@ ghost use Rattle.entry_tree.specs.Tree.{children_below, has_below, holds_folder}
 ghost use Rattle.roots_api.specs.Steps.{in_folder, where_expected};
 ghost use Rattle.roots_api.specs.declared.answer.Answer.TheVariants.{Listed, Held, NotEmpty, Done};
 
-use crate::found::{copy_found, is_expected, is_folder, missing_parent};
+use crate::found::{is_folder, missing_parent};
 use entry_tree::{Entry, Node, TreeOf};
-use roots_api::{Answer, Rows};
+use roots_api::{Answer, Rows, copy_found, is_expected};
 use std::alloc::{AllocError, Global};
 use sync_path::Path;
 

@@ -1,4 +1,4 @@
-// Which operations are to fail.
+//! Which operations are to fail.
 ghost use Rattle.std.specs.Prelude.{◌≡◌, ◌==◌, ℕ, [], IfOk};
 ghost use Rattle.std.specs.List.{list_any};
 

@@ -1,4 +1,4 @@
-// The files that a session keeps, by digest.
+//! The files that a session keeps, by digest.
 ghost use Rattle.std.specs.Prelude.{◌≡◌, IfErr, OnOk, OnErr};
 ghost use Rattle.std.specs.FinMap as map;
 ghost use Rattle.std.specs.Option.{option_copied};

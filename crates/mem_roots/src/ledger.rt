@@ -1,4 +1,4 @@
-// The contents that a root's files ever had.
+//! The contents that a root's files ever had.
 ghost use Rattle.std.specs.Prelude.{◌≡◌, ◌++◌, ◌∷◌, [], length, slice_get, take, ◌-◌, OnOk, OnErr};
 ghost use Rattle.std.specs.Option.{option_copied};
 

@@ -9,16 +9,16 @@
 #![tactic(auto)]
 
 mod checks;
-mod events;
 mod fail_list;
 mod found;
 mod kept;
-mod kinds;
 pub mod laws;
 mod ledger;
 mod mem_root;
 mod mem_roots;
 mod pieces;
+mod root_ask;
+mod setting;
 mod sizes;
 mod staged;
 mod staging;
@@ -26,3 +26,4 @@ mod state;
 
 pub use mem_root::MemRoot;
 pub use mem_roots::MemRoots;
+pub use root_ask::{RootAsk, RootTold};

@@ -1,14 +1,13 @@
-// One root in memory.
+//! One root in memory.
 ghost use Rattle.std.specs.Prelude.{◌≡◌, ◌==◌, ◌≤◌, ℕ, IfOk, OnOk, OnErr};
 ghost use Rattle.std.specs.List.{list_any};
 ghost use Rattle.roots_api.specs.Answers.{IsAnswerTo};
 ghost use Rattle.roots_api.specs.Logs.{IsLegal, state_of};
-ghost use Rattle.roots_api.specs.Told.{IsSession, EditsOn};
+ghost use Rattle.roots_api.specs.Told.{IsSession};
 ghost use Rattle.roots_api.specs.Views.{view_of};
-ghost use Rattle.mem_roots.specs.MemRoot.{Leads, new_mem};
+ghost use Rattle.mem_roots.specs.MemRoot.{Edits, Leads, new_mem};
 
 use crate::fail_list::FailList;
-use crate::kinds::is_full;
 use crate::sizes::Sizes;
 use crate::state::State;
 use entry_tree::Tree;
@@ -16,6 +15,7 @@ use roots_api::{Answer, Edit, EditError, Event, Op, Who};
 use std::alloc::{AllocError, Global};
 use std::marker::Model;
 
+mod as_object;
 mod as_root;
 mod deciding;
 mod editing;
@@ -30,6 +30,7 @@ pub struct MemRoot {
     sizes: Sizes,
     fails: FailList,
     full_answers: u64,
+    alloc: Global,
 }
 
 impl Model for MemRoot {
@@ -58,6 +59,7 @@ impl MemRoot {
             sizes: Sizes::new(),
             fails: FailList::new(alloc),
             full_answers: 0,
+            alloc,
         })
     }
 
@@ -85,7 +87,7 @@ impl MemRoot {
     /// Does the session's operation, and answers. Want of memory leaves all as it was.
     ///
     /// Cost: O(log n), and its bytes or rows.
-    pub fn ask(&mut self, alloc: Global, who: &Who, op: &Op) -> Result<Answer, AllocError>
+    pub fn call(&mut self, alloc: Global, who: &Who, op: &Op) -> Result<Answer, AllocError>
         requires { IsSession who.now }
         ensures step { Leads self.old who.now op.now result self.new }
         ensures row { IfOk result (IsAnswerTo op.now) }
@@ -94,7 +96,7 @@ impl MemRoot {
     {
         let _ = &self.log;
         let answer = self.decide(alloc, who, op)?;
-        if is_full(&answer) {
+        if answer.is_full() {
             self.count_full();
             return Ok(answer);
         }
@@ -107,10 +109,8 @@ impl MemRoot {
     /// is changed.
     ///
     /// Cost: O(log n), the bytes put, and what is taken away; a refusal, the bytes of the file that is in the way.
-    pub fn change(&mut self, alloc: Global, change: &Edit) -> Result<(), EditError>
-        ensures log { EditsOn change.now result self.old.log self.new.log }
-        ensures fails { self.new.fails ≡ self.old.fails }
-        ensures full_answers { self.new.full_answers ≡ self.old.full_answers }
+    pub fn edit(&mut self, alloc: Global, change: &Edit) -> Result<(), EditError>
+        ensures step { Edits self.old change.now result self.new }
         ensures legal { IsLegal self.new.log }
     {
         let _ = &self.log;

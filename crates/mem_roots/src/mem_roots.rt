@@ -1,12 +1,13 @@
-// Several roots in memory.
+//! Several roots in memory.
 ghost use Rattle.std.specs.Prelude.{◌≡◌, ◌==◌, ◌<◌, ◌≤◌, ℕ, List, Some, IfOk, OnOk, OnErr, slice_set, replicate};
 ghost use Rattle.std.specs.List.{list_any};
 ghost use Rattle.roots_api.specs.Answers.{IsAnswerTo};
 ghost use Rattle.roots_api.specs.Logs.{IsLegal, state_of};
-ghost use Rattle.roots_api.specs.Told.{IsSession, EditsOn};
+ghost use Rattle.roots_api.specs.Told.{IsSession};
 ghost use Rattle.roots_api.specs.Views.{view_of};
-ghost use Rattle.mem_roots.specs.MemRoot.{Leads, new_mem};
-ghost use Rattle.mem_roots.specs.Named.{named_root, root_at};
+ghost use Rattle.mem_roots.specs.MemRoot.{Edits, Leads, new_mem};
+ghost use Rattle.mem_roots.specs.Named.{AreLegalLogs, named_root, root_at};
+ghost use Rattle.mem_roots.specs.declared.mem_roots.TheConstants.{ROOTS};
 
 use crate::mem_root::MemRoot;
 use entry_tree::Tree;
@@ -30,6 +31,8 @@ impl Model for MemRoots {
     ghost use Rattle.std.specs.Coded.{coded_list};
     ghost use Rattle.mem_roots.specs.MemRoot.{MemState};
     ghost use Rattle.mem_roots.specs.Codes.{mem_code};
+    ghost use Rattle.mem_roots.specs.Named.{AreLegalLogs};
+    ghost use Rattle.mem_roots.specs.declared.mem_roots.TheConstants.{ROOTS};
 
     ghost Value = { List MemState };
 
@@ -37,13 +40,13 @@ impl Model for MemRoots {
 
     ghost view = { λ r. r.roots.items };
 
-    ghost invariant = { λ r. length r.roots.items ≡ 8 };
+    ghost invariant = { λ r. (length r.roots.items ≡ ROOTS) × AreLegalLogs r.roots.items };
 }
 
 impl MemRoots {
     /// The roots A to H, each a folder without names, with an empty log.
     pub fn eight(alloc: Global) -> Result<MemRoots, AllocError>
-        ensures { IfOk result (λ roots. roots ≡ replicate 8 new_mem) }
+        ensures { IfOk result (λ roots. roots ≡ replicate ROOTS new_mem) }
     {
         let mut roots = Vec::new(alloc);
         for _made in 0..ROOTS {
@@ -77,7 +80,7 @@ impl MemRoots {
     }
 
     /// Does the session's operation on the root, and answers: as `Roots::call`, with what it makes of the root.
-    pub fn ask(
+    pub fn call(
         &mut self,
         alloc: Global,
         root: RootId,
@@ -93,20 +96,25 @@ impl MemRoots {
         ensures others { self.new ≡ slice_set self.old root.0 (root_at self.new root) }
     {
         let at = &mut self.roots[place_of(root)];
-        at.ask(alloc, who, op)
+        at.call(alloc, who, op)
     }
 
     /// Makes an editor's change of the root: as `Roots::edit`, with what it makes of the root.
-    pub fn change(&mut self, alloc: Global, root: RootId, change: &Edit) -> Result<(), EditError>
+    pub fn edit(&mut self, alloc: Global, root: RootId, change: &Edit) -> Result<(), EditError>
         requires { (name : List ℕ) × (named_root name ≡ Some root) }
-        ensures log { EditsOn change.now result (root_at self.old root).log (root_at self.new root).log }
-        ensures fails { (root_at self.new root).fails ≡ (root_at self.old root).fails }
-        ensures full_answers { (root_at self.new root).full_answers ≡ (root_at self.old root).full_answers }
+        ensures step { Edits (root_at self.old root) change.now result (root_at self.new root) }
         ensures legal { IsLegal (root_at self.new root).log }
         ensures others { self.new ≡ slice_set self.old root.0 (root_at self.new root) }
     {
         let at = &mut self.roots[place_of(root)];
-        at.change(alloc, change)
+        at.edit(alloc, change)
+    }
+
+    // Each log is legal. It does nothing.
+    fn are_legal(&self)
+        ensures { AreLegalLogs self.now }
+    {
+        let _ = &self.roots;
     }
 
     // What the root shows.
@@ -123,7 +131,7 @@ impl MemRoots {
 fn place_of(root: RootId) -> usize
     requires { (name : List ℕ) × (named_root name ≡ Some root) }
     ensures value { result ≡ root.0 }
-    ensures bound { result < 8 }
+    ensures bound { result < ROOTS }
 {
     root.0 as usize
 }

@@ -1,4 +1,4 @@
-// Pieces of contents.
+//! Pieces of contents.
 ghost use Rattle.std.specs.Prelude.{◌≡◌, take, drop, IfOk};
 ghost use Rattle.roots_api.specs.Steps.{piece_of};
 

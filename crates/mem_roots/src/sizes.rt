@@ -1,4 +1,4 @@
-// The running sizes of a log.
+//! The running sizes of a log.
 ghost use Rattle.std.specs.Prelude.{◌≡◌, ◌+◌, ◌<◌, ◌^◌, ◌||◌, [], length, nat_lt};
 ghost use Rattle.roots_api.specs.Logs.{rows_in, appended_by};
 
@@ -46,8 +46,8 @@ impl Sizes {
     pub(crate) fn has_no_room(&self, op: &Op, answer: &Answer) -> bool
         ensures { result ≡ (nat_lt MAX_LOG_SIZE (self.now.log + (1 + rows_in answer.now)) || nat_lt MAX_BYTES_HELD (self.now.bytes + length (appended_by op.now))) }
     {
-        passes(self.log, 1 + rows_in(answer) as u128, MAX_LOG_SIZE)
-            || passes(self.bytes, appended_len(op) as u128, MAX_BYTES_HELD)
+        passes(self.log, 1 + answer.rows_in() as u128, MAX_LOG_SIZE)
+            || passes(self.bytes, op.appended_len() as u128, MAX_BYTES_HELD)
     }
 }
 
@@ -64,8 +64,8 @@ impl Sizes {
         ensures { result ≡ sizes_with self.now (rows_in answer.now) (length (appended_by op.now)) placed }
     {
         Sizes {
-            log: self.log + 1 + rows_in(answer) as u64,
-            bytes: self.bytes + appended_len(op) as u64 + placed as u64,
+            log: self.log + 1 + answer.rows_in() as u64,
+            bytes: self.bytes + op.appended_len() as u64 + placed as u64,
             asked: self.asked + 1,
         }
     }
@@ -90,24 +90,4 @@ pub(crate) fn passes(held: u64, more: u128, limit: u64) -> bool
     ensures { result ≡ nat_lt limit (held + more) }
 {
     (limit as u128) < held as u128 + more
-}
-
-// How many rows the answer lists.
-fn rows_in(answer: &Answer) -> usize
-    ensures { result ≡ rows_in answer.now }
-{
-    match answer {
-        Answer::Listed(rows) => rows.len(),
-        _ => 0,
-    }
-}
-
-// How many bytes the operation appends to a staged file.
-fn appended_len(op: &Op) -> usize
-    ensures { result ≡ length (appended_by op.now) }
-{
-    match op {
-        Op::StageAppend { bytes } => bytes.len(),
-        _ => 0,
-    }
 }

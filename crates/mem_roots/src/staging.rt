@@ -1,4 +1,4 @@
-// What sessions have staged on a root.
+//! What sessions have staged on a root.
 ghost use Rattle.std.specs.Prelude.{◌≡◌, OnOk, OnErr, unwrap_or};
 ghost use Rattle.std.specs.FinMap as map;
 ghost use Rattle.std.specs.Option.{option_copied};

@@ -1,17 +1,20 @@
-// The state of a root.
-ghost use Rattle.std.specs.Prelude.{◌≡◌, [], length, IfOk, OnOk, OnErr, unwrap_or};
+//! The state of a root.
+ghost use Rattle.std.specs.Prelude.{◌≡◌, ◌⊎◌, true, [], length, IfOk, OnOk, OnErr, None, Bool, IsTrue, unwrap_or};
+ghost use Rattle.std.specs.FinMap as map;
 ghost use Rattle.std.specs.Option.{option_copied};
-ghost use Rattle.roots_api.specs.States.{RootState, new_root, kept_by, with_file, with_tree};
-ghost use Rattle.roots_api.specs.Steps.{after, done};
-ghost use Rattle.mem_roots.specs.MemRoot.{placed_by};
-ghost use Rattle.mem_roots.specs.Paths.{HoldsPaths};
 ghost use Rattle.entry_tree.specs.Entry.{is_dir};
 ghost use Rattle.entry_tree.specs.Tree.{set_at, without_under};
+ghost use Rattle.roots_api.specs.Answers.{is_done};
+ghost use Rattle.roots_api.specs.Expected.{holds_file};
+ghost use Rattle.roots_api.specs.States.{RootState, new_root, kept_by, missing_parent, with_exec, with_file, with_tree};
+ghost use Rattle.roots_api.specs.Steps.{after, answer_of, done};
+ghost use Rattle.mem_roots.specs.MemRoot.{placed_by};
+ghost use Rattle.mem_roots.specs.Stamps.{IsStampOf};
 
-use crate::kinds::{is_done, is_dropped};
 use crate::ledger::Ledger;
+use crate::setting::{replace, set_allowed};
 use crate::staging::Staging;
-use entry_tree::{Digest, Entry, TreeOf};
+use entry_tree::{Digest, Entry, Stamp, TreeOf};
 use roots_api::{Answer, Content, Op};
 use std::alloc::{AllocError, Global};
 use std::marker::Model;
@@ -37,11 +40,7 @@ impl Model for State {
 
     ghost coded = { state_code };
 
-    ghost use Rattle.mem_roots.specs.Paths.{HoldsPaths};
-
     ghost view = { λ s. record { tree = s.tree; ledger = s.ledger; staging = s.staging } };
-
-    ghost invariant = { λ s. HoldsPaths s.tree };
 }
 
 impl State {
@@ -50,21 +49,12 @@ impl State {
         ensures { IfOk result (λ state. state ≡ new_root) }
     {
         let mut tree = TreeOf::new(alloc);
-        match tree.set(alloc, &Path::root(alloc), Entry::Dir) {
-            Ok(()) => Ok(State {
-                tree,
-                ledger: Ledger::new(alloc),
-                staging: Staging::new(alloc),
-            }),
-            Err(_) => Err(AllocError),
-        }
-    }
-
-    /// Each path at which the tree holds something is one. It does nothing.
-    pub(crate) fn holds_paths(&self)
-        ensures { HoldsPaths self.now.tree }
-    {
-        let _ = &self.tree;
+        set_allowed(&mut tree, alloc, &Path::root(alloc), Entry::Dir)?;
+        Ok(State {
+            tree,
+            ledger: Ledger::new(alloc),
+            staging: Staging::new(alloc),
+        })
     }
 
     /// Makes of the state what the operation with this answer makes of it. After an `Err` it is as it was.
@@ -77,20 +67,22 @@ impl State {
         op: &Op,
         answer: &Answer,
     ) -> Result<(), AllocError>
+        requires { (answer.now ≡ Answer.Failed) ⊎ (answer.now ≡ answer_of self.old id op.now) }
         ensures ok { OnOk result (self.new ≡ after self.old id op.now answer.now) }
         ensures err { OnErr result (self.new ≡ self.old) }
     {
-        if is_done(answer) {
+        if answer.is_done() {
             return self.act(alloc, id, op);
         }
-        if is_dropped(answer) {
+        if answer.is_dropped() {
             return self.staging.apply(alloc, id, op, false);
         }
         Ok(())
     }
 
-    // Does the operation.
+    // Does the operation, which is done on this state.
     fn act(&mut self, alloc: Global, id: u128, op: &Op) -> Result<(), AllocError>
+        requires { is_done (answer_of self.old id op.now) ≡ true }
         ensures ok { OnOk result (self.new ≡ done self.old id op.now) }
         ensures err { OnErr result (self.new ≡ self.old) }
     {
@@ -104,7 +96,12 @@ impl State {
             Op::StageOpen => self.staging.apply(alloc, id, op, true),
             Op::StageAppend { .. } => self.staging.apply(alloc, id, op, true),
             Op::StageKeep { .. } => self.staging.apply(alloc, id, op, true),
-            Op::Place { path, digest, .. } => self.place(alloc, id, path, digest),
+            Op::Place {
+                path,
+                digest,
+                exec,
+                ..
+            } => self.place(alloc, id, path, digest, *exec),
             Op::MakeDir { path } => self.set(alloc, path, Entry::Dir),
             Op::MakeLink { path, text, .. } => match text.copy(alloc) {
                 Ok(text) => self.set(alloc, path, Entry::Link(text)),
@@ -112,6 +109,11 @@ impl State {
             },
             Op::Remove { path, .. } => {
                 self.take_away(path);
+                Ok(())
+            }
+            Op::SetExec { path, expected, on } => {
+                let _ = expected.entry();
+                self.set_exec(alloc, path, *on);
                 Ok(())
             }
         }
@@ -124,16 +126,18 @@ impl State {
         id: u128,
         path: &Path,
         digest: &Digest,
+        exec: bool,
     ) -> Result<(), AllocError>
-        ensures ok { OnOk result (self.new ≡ with_file self.old path.now (unwrap_or (kept_by self.old id digest.now) [])) }
+        requires { missing_parent self.old.tree path.now ≡ None }
+        ensures ok { OnOk result (self.new ≡ with_file self.old path.now (unwrap_or (kept_by self.old id digest.now) []) exec) }
         ensures err { OnErr result (self.new ≡ self.old) }
     {
         match self.kept(id, digest) {
             Some(bytes) => match bytes.copy(alloc) {
-                Ok(bytes) => self.put(alloc, path, bytes),
+                Ok(bytes) => self.put(alloc, path, bytes, exec),
                 Err(error) => Err(error),
             },
-            None => self.put(alloc, path, Content::new(alloc)),
+            None => self.put(alloc, path, Content::new(alloc), exec),
         }
     }
 
@@ -143,7 +147,7 @@ impl State {
     {
         match op {
             Op::Place { digest, .. } => {
-                if is_done(answer) {
+                if answer.is_done() {
                     self.kept_len(id, digest)
                 } else {
                     0
@@ -174,18 +178,24 @@ impl State {
     }
 
     // Puts a file of a new content at the path.
-    fn put(&mut self, alloc: Global, path: &Path, bytes: Content) -> Result<(), AllocError>
-        ensures ok { OnOk result (self.new ≡ with_file self.old path.now bytes) }
+    fn put(
+        &mut self,
+        alloc: Global,
+        path: &Path,
+        bytes: Content,
+        exec: bool,
+    ) -> Result<(), AllocError>
+        requires { missing_parent self.old.tree path.now ≡ None }
+        ensures ok { OnOk result (self.new ≡ with_file self.old path.now bytes exec) }
         ensures err { OnErr result (self.new ≡ self.old) }
     {
-        let _ = path.names();
         let stamp = self.ledger.next();
         self.ledger.push(bytes)?;
-        match self.tree.set(alloc, path, Entry::File(stamp)) {
+        match set_allowed(&mut self.tree, alloc, path, Entry::File(stamp, exec)) {
             Ok(()) => Ok(()),
-            Err(_) => {
+            Err(error) => {
                 self.ledger.pop();
-                Err(AllocError)
+                Err(error)
             }
         }
     }
@@ -199,13 +209,30 @@ impl State {
 
     // Sets an entry that has no content.
     fn set(&mut self, alloc: Global, path: &Path, entry: Entry) -> Result<(), AllocError>
+        requires { missing_parent self.old.tree path.now ≡ None }
         ensures ok { OnOk result (self.new ≡ with_tree self.old (set_at is_dir self.old.tree path.now entry)) }
         ensures err { OnErr result (self.new ≡ self.old) }
     {
-        let _ = path.names();
-        match self.tree.set(alloc, path, entry) {
-            Ok(()) => Ok(()),
-            Err(_) => Err(AllocError),
+        set_allowed(&mut self.tree, alloc, path, entry)
+    }
+
+    // Sets or clears the executable bit of the file at the path. It takes no memory.
+    fn set_exec(&mut self, alloc: Global, path: &Path, on: bool)
+        requires { holds_file (map.get self.old.tree path.now) ≡ true }
+        ensures { self.new ≡ with_exec self.old path.now on }
+    {
+        let stamp = self.stamp_at(path);
+        replace(&mut self.tree, alloc, path, Entry::File(stamp, on));
+    }
+
+    // The stamp of the file at the path.
+    fn stamp_at(&self, path: &Path) -> Stamp
+        requires { holds_file (map.get self.now.tree path.now) ≡ true }
+        ensures { IsStampOf (map.get self.now.tree path.now) result }
+    {
+        match self.tree.get(path) {
+            Some(Entry::File(stamp, _)) => *stamp,
+            _ => unreachable!(),
         }
     }
 }

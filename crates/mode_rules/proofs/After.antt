@@ -7,28 +7,22 @@ use Rattle.std.specs.List.{filter, filter_map, cons_option, list_any, AllByRecur
 use Rattle.std.specs.Ordering.{eq_by_cmp}
 use Rattle.std.proofs.lemmas.Bool.{and_parts, or_right}
 use Rattle.sync_path.specs.Path.{path_cmp, is_under}
-use Rattle.entry_tree.specs.Tree.{Names, ByPath, is_below, part, folders_above, without_under, entries_under}
+use Rattle.entry_tree.specs.Subtree.{subtree}
+use Rattle.entry_tree.specs.Tree.{Names, ByPath, without_under, entries_under}
 use Rattle.entry_tree.specs.declared.atom.Atom.{Atom}
 use Rattle.entry_tree.specs.declared.side.Side.{Side}
 use Rattle.entry_tree.proofs.Copies.{get-put_all, find-under, or_else}
 use Rattle.entry_tree.proofs.Maps.{alike}
 use Rattle.entry_tree.proofs.Paths.{path_same}
 use Rattle.entry_tree.proofs.Trees.{tie_is}
-use Rattle.mode_rules.specs.declared.plan.Change.{Change}
+use Rattle.mode_rules.specs.declared.change.Change.{Change}
 use Rattle.mode_rules.specs.Laws.{is_of, with_change, after}
-use Rattle.mode_rules.proofs.Below.{not_below_under}
 
--- a part of a tree holds, at and below its path, what the tree holds
-pub get-part : (tree : ByPath Atom) (at q : Names) → is_under q at ≡ true → trees.get (part tree at) q ≡ trees.get tree q
-get-part tree at q h =
-    trees.get-retain_keys tree (λ p. is_under p at || is_under at p) q (alike path_same (λ p. is_under p at || is_under at p) q)
-    ∙ ap (λ b. cond (b || is_under at q) (trees.get tree q) None) h
-
--- the folders above a path have nothing at and below it
-pub get-folders_above : (tree : ByPath Atom) (at q : Names) → is_under q at ≡ true → trees.get (folders_above tree at) q ≡ None
-get-folders_above tree at q h =
-    trees.get-retain_keys tree (λ p. is_below at p) q (alike path_same (λ p. is_below at p) q)
-    ∙ ap (λ b. cond b (trees.get tree q) None) (not_below_under at q h)
+-- a subtree holds, at and below its path, what the tree holds
+pub get-subtree : (tree : ByPath Atom) (at q : Names) → is_under q at ≡ true → trees.get (subtree tree at) q ≡ trees.get tree q
+get-subtree tree at q h =
+    trees.get-retain_keys tree (λ p. is_under p at) q (alike path_same (λ p. is_under p at) q)
+    ∙ ap (λ b. cond b (trees.get tree q) None) h
 
 put_over : (b : Bool) (new old : Option Atom) → or_else (cond b new None) (cond (not b) old None) ≡ cond b new old
 put_over true None old = refl

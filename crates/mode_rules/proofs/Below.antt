@@ -1,15 +1,14 @@
 -- How two paths above a third lie to one another, and what a tree that is closed under parents holds above what it holds.
-use Rattle.std.proofs.Common.{◌≡◌, ℕ, Bool, true, false, List, [], ◌∷◌, ◌++◌, bytes_eq, refl, sym, ap, ap₂, subst, ◌∙◌, inl, inr, Option, Some, None, append_assoc}
+use Rattle.std.proofs.Common.{◌≡◌, ℕ, Bool, true, false, not, List, [], ◌∷◌, ◌++◌, bytes_eq, refl, sym, ap, ap₂, subst, ◌∙◌, inl, inr, Option, Some, None, append_assoc}
 use Rattle.std.specs.Prelude.{◌&&◌, ◌⊎◌}
 use Rattle.std.specs.FinMap as trees
 use Rattle.std.specs.Option.{is_some}
-use Rattle.std.proofs.lemmas.Bool.{and_parts, and_from, and_right}
+use Rattle.std.proofs.lemmas.Bool.{and_parts, and_from}
 use Rattle.std.proofs.lemmas.List.{append-nil}
-use Rattle.sync_path.specs.Path.{is_under}
+use Rattle.sync_path.specs.Path.{is_under, is_below}
 use Rattle.sync_path.proofs.Intervals.{rest_from_under, under_from_rest}
 use Rattle.entry_tree.specs.Atom.{is_dir}
-use Rattle.entry_tree.specs.Tree.{Names, ByPath, IsClosed, is_below}
-use Rattle.entry_tree.specs.Tree.{holds_folder as tree_folder}
+use Rattle.entry_tree.specs.Tree.{Names, ByPath, IsClosed}
 use Rattle.entry_tree.specs.declared.atom.Atom.{Atom}
 use Rattle.entry_tree.proofs.Paths.{name_is, name_itself, under_itself}
 use Rattle.mode_rules.specs.Trees.{Trees, holds_folder}
@@ -26,6 +25,27 @@ under_both (x ∷ a) (y ∷ b) h g =
     let up = and_parts (bytes_eq y x) (is_under a b) h in
     let down = and_parts (bytes_eq x y) (is_under b a) g in
     ap₂ (λ n ns. n ∷ ns) (name_is x y down.0) (under_both a b up.1 down.1)
+
+-- what lies below a path is under it, and isn't above it
+pub below_is_under : (q p : Names) → is_below q p ≡ (is_under q p && not (is_under p q))
+below_is_under [] [] = refl
+below_is_under (x ∷ q) [] = refl
+below_is_under [] (y ∷ p) = refl
+below_is_under (x ∷ q) (y ∷ p) =
+    elim (bytes_eq y x) as (λ b. bytes_eq y x ≡ b → (b && is_below q p) ≡ ((b && is_under q p) && not (bytes_eq x y && is_under p q))) [
+      | true ↦ λ e. below_is_under q p ∙ ap (λ b. is_under q p && not (b && is_under p q)) (sym (turned_name y x e))
+      | false ↦ λ e. refl
+    ] refl
+
+-- what lies at or below a path lies at or below all that this lies at or below
+pub under_through : (a b c : Names) → is_under a b ≡ true → is_under b c ≡ true → is_under a c ≡ true
+under_through a b [] h g = refl
+under_through a [] (z ∷ c) h g = absurd (cc)
+under_through [] (y ∷ b) (z ∷ c) h g = absurd (cc)
+under_through (x ∷ a) (y ∷ b) (z ∷ c) h g =
+    let up = and_parts (bytes_eq y x) (is_under a b) h in
+    let on = and_parts (bytes_eq z y) (is_under b c) g in
+    and_from (bytes_eq z x) (is_under a c) (ap (bytes_eq z) (sym (name_is y x up.0)) ∙ on.0) (under_through a b c up.1 on.1)
 
 -- of two paths at or above a third, one lies at or below the other
 pub one_is_under : (q a b : Names) → is_under q a ≡ true → is_under q b ≡ true → is_under a b ≡ false → is_under b a ≡ true
@@ -50,29 +70,15 @@ parent_or_child (x ∷ q) (m ∷ p) n h apart =
     and_from (bytes_eq x m) (is_under p (q ++ n ∷ [])) (turned_name m x up.0)
     (parent_or_child q p n up.1 (ap (λ c. c && is_under q p) (sym up.0) ∙ apart))
 
--- no path lies below what lies at or below it
-pub not_below_under : (at q : Names) → is_under q at ≡ true → is_below at q ≡ false
-not_below_under [] [] h = refl
-not_below_under [] (n ∷ q) h = refl
-not_below_under (x ∷ at) [] h = absurd (cc)
-not_below_under (x ∷ at) (n ∷ q) h = and_right (bytes_eq n x) (is_below at q) (not_below_under at q (and_parts (bytes_eq x n) (is_under q at) h).1)
-
 folder_is_some : (o : Option Atom) → holds_folder o ≡ true → is_some o ≡ true
 folder_is_some None h = absurd (cc)
 folder_is_some (Some x) h = refl
 
-closed_at : (tree : ByPath Atom) → IsClosed is_dir tree → (at : Names) (name : List ℕ) → is_some (trees.get tree (at ++ name ∷ [])) ≡ true → holds_folder (trees.get tree at) ≡ true
-closed_at tree closed at name h = by (trees.get tree at) (closed at name h)
-  where
-    by : (o : Option Atom) → tree_folder is_dir o ≡ true → holds_folder o ≡ true
-    by None h = h
-    by (Some x) h = h
-
 -- above what a closed tree holds there are folders
 closed_above : (tree : ByPath Atom) → IsClosed is_dir tree → (rest at : Names) (name : List ℕ) → is_some (trees.get tree (at ++ name ∷ rest)) ≡ true → holds_folder (trees.get tree at) ≡ true
-closed_above tree closed [] at name h = closed_at tree closed at name h
+closed_above tree closed [] at name h = closed at name h
 closed_above tree closed (next ∷ rest) at name h =
-    closed_at tree closed at name (folder_is_some _ (closed_above tree closed rest (at ++ name ∷ []) next
+    closed at name (folder_is_some _ (closed_above tree closed rest (at ++ name ∷ []) next
     (ap (λ p. is_some (trees.get tree p)) (append_assoc at (name ∷ []) (next ∷ rest)) ∙ h)))
 
 pub folder_above : (tree : ByPath Atom) → IsClosed is_dir tree → (q at : Names) → is_under q at ≡ true → is_under at q ≡ false → is_some (trees.get tree q) ≡ true → holds_folder (trees.get tree at) ≡ true

@@ -1,4 +1,4 @@
--- What a side's standing at a path says of each path at and below it.
+-- What a side's comparison at a path says of each path at and below it.
 use Rattle.std.proofs.Common.{◌≡◌, Bool, true, false, cond, ◌||◌, List, [], ◌∷◌, refl, sym, ap, ◌∙◌}
 use Rattle.std.specs.FinMap as trees
 use Rattle.std.specs.List.{filter, list_all, list_any}

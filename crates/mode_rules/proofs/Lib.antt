@@ -1,11 +1,17 @@
 pub mod After
+pub mod Agreeing
 pub mod Below
 pub mod Cases
+pub mod Changing
+pub mod Deciding
+pub mod Folding
 pub mod Held
 pub mod Licences
+pub mod ListLaws
 pub mod Meeting
 pub mod PathKeys
 pub mod PathSets
 pub mod PlanLaws
 pub mod PlanParts
+pub mod PlanPaths
 pub mod Turning

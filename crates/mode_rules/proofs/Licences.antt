@@ -11,18 +11,18 @@ use Rattle.entry_tree.specs.declared.atom.Atom.{Atom}
 use Rattle.entry_tree.specs.declared.side.Side.TheVariants.{Alpha, Beta}
 use Rattle.mode_rules.specs.declared.mode.Mode.{Mode}
 use Rattle.mode_rules.specs.declared.mode.Mode.TheVariants.{TwoWaySafe, TwoWayResolved, OneWaySafe, OneWayReplica}
-use Rattle.mode_rules.specs.declared.standing.Standing.{Standing}
+use Rattle.mode_rules.specs.declared.comparing.Comparison.{Comparison}
 use Rattle.mode_rules.specs.declared.verdict.Verdict.{Verdict}
 use Rattle.mode_rules.specs.declared.verdict.Verdict.TheVariants as verdicts
 use Rattle.mode_rules.specs.Laws.{TakesOnlyTheAncestors}
 use Rattle.mode_rules.specs.Trees.{Trees, paths_of, compared}
-use Rattle.mode_rules.specs.Verdicts.{by_mode, standing, verdict}
+use Rattle.mode_rules.specs.Verdicts.{by_mode, comparison, verdict}
 use Rattle.mode_rules.specs.Plans.{change_at, change_by}
 use Rattle.mode_rules.proofs.Cases.{by_case, same_is, less_is}
 use Rattle.mode_rules.proofs.Held.{has_alphas, has_betas, same_each, less_each}
 
--- the standing of the side that is changed
-abbrev Licence : Standing → Standing → Verdict → Type 0
+-- the comparison of the side that is changed
+abbrev Licence : Comparison → Comparison → Verdict → Type 0
 Licence sa sb verdicts.AlphaTakes = (sa.same || sa.less) ≡ true
 Licence sa sb verdicts.AlphaEmptied = (sa.same || sa.less) ≡ true
 Licence sa sb verdicts.BetaTakes = (sb.same || sb.less) ≡ true
@@ -49,11 +49,11 @@ something None atom e = absurd (cc)
 something (Some x) atom e = refl
 
 -- a side that is the same or less holds what the ancestor holds, or nothing
-pub is_the_ancestors : (t : Trees) (side : ByPath Atom) (path q : Names) (atom : Atom) → (standing t side path).same ≡ true → list_any (eq_by_cmp path_cmp q) (paths_of t) ≡ true
+pub is_the_ancestors : (t : Trees) (side : ByPath Atom) (path q : Names) (atom : Atom) → (comparison t side path).same ≡ true → list_any (eq_by_cmp path_cmp q) (paths_of t) ≡ true
     → is_under q path ≡ true → compared (trees.get side q) ≡ Some atom → trees.get t.ancestor q ≡ Some atom
 is_the_ancestors t side path q atom h has under is = sym (same_is _ _ (same_each t side path q h has under)) ∙ is
 
-is_the_ancestors_of_less : (t : Trees) (side : ByPath Atom) (path q : Names) (atom : Atom) → (standing t side path).less ≡ true → list_any (eq_by_cmp path_cmp q) (paths_of t) ≡ true
+is_the_ancestors_of_less : (t : Trees) (side : ByPath Atom) (path q : Names) (atom : Atom) → (comparison t side path).less ≡ true → list_any (eq_by_cmp path_cmp q) (paths_of t) ≡ true
     → is_under q path ≡ true → compared (trees.get side q) ≡ Some atom → trees.get t.ancestor q ≡ Some atom
 is_the_ancestors_of_less t side path q atom h has under is =
     elim (less_is (compared (trees.get side q)) (trees.get t.ancestor q) (less_each t side path q h has under)) [
@@ -61,23 +61,23 @@ is_the_ancestors_of_less t side path q atom h has under is =
       | inr same ↦ sym same ∙ is
     ]
 
-licensed : (t : Trees) (side : ByPath Atom) (path q : Names) (atom : Atom) → ((standing t side path).same || (standing t side path).less) ≡ true
+licensed : (t : Trees) (side : ByPath Atom) (path q : Names) (atom : Atom) → ((comparison t side path).same || (comparison t side path).less) ≡ true
     → list_any (eq_by_cmp path_cmp q) (paths_of t) ≡ true → is_under q path ≡ true → compared (trees.get side q) ≡ Some atom → trees.get t.ancestor q ≡ Some atom
 licensed t side path q atom h has under is =
-    elim (or_cases (standing t side path).same (standing t side path).less h) [
+    elim (or_cases (comparison t side path).same (comparison t side path).less h) [
       | inl same ↦ is_the_ancestors t side path q atom same has under is
       | inr less ↦ is_the_ancestors_of_less t side path q atom less has under is
     ]
 
-of_alpha : (t : Trees) (path : Names) → ((standing t t.alpha path).same || (standing t t.alpha path).less) ≡ true → (q : Names) (atom : Atom)
+of_alpha : (t : Trees) (path : Names) → ((comparison t t.alpha path).same || (comparison t t.alpha path).less) ≡ true → (q : Names) (atom : Atom)
     → is_under q path ≡ true → compared (trees.get t.alpha q) ≡ Some atom → trees.get t.ancestor q ≡ Some atom
 of_alpha t path h q atom under is = licensed t t.alpha path q atom h (has_alphas t q (something (trees.get t.alpha q) atom is)) under is
 
-of_beta : (t : Trees) (path : Names) → ((standing t t.beta path).same || (standing t t.beta path).less) ≡ true → (q : Names) (atom : Atom)
+of_beta : (t : Trees) (path : Names) → ((comparison t t.beta path).same || (comparison t t.beta path).less) ≡ true → (q : Names) (atom : Atom)
     → is_under q path ≡ true → compared (trees.get t.beta q) ≡ Some atom → trees.get t.ancestor q ≡ Some atom
 of_beta t path h q atom under is = licensed t t.beta path q atom h (has_betas t q (something (trees.get t.beta q) atom is)) under is
 
-takes_by : (t : Trees) (path : Names) (v : Verdict) → Licence (standing t t.alpha path) (standing t t.beta path) v → IfSome (change_by t path v) (TakesOnlyTheAncestors t)
+takes_by : (t : Trees) (path : Names) (v : Verdict) → Licence (comparison t t.alpha path) (comparison t t.beta path) v → IfSome (change_by t path v) (TakesOnlyTheAncestors t)
 takes_by t path verdicts.AlphaTakes h = of_alpha t path h
 takes_by t path verdicts.AlphaEmptied h = of_alpha t path h
 takes_by t path verdicts.BetaTakes h = of_beta t path h
@@ -93,17 +93,17 @@ or_second : (a b : Bool) → b ≡ true → (a || b) ≡ true
 or_second true b e = refl
 or_second false b e = e
 
-one_way_licence : (sa : Standing) (b bl holds : Bool) → Licence sa (record { same = b; less = bl }) (by_mode OneWaySafe holds sa (record { same = b; less = bl }))
+one_way_licence : (sa : Comparison) (b bl holds : Bool) → Licence sa (record { same = b; less = bl }) (by_mode OneWaySafe holds sa (record { same = b; less = bl }))
 one_way_licence sa b true holds = or_second b true refl
 one_way_licence sa b false true = tt
 one_way_licence sa b false false = tt
 
-takes_only : (mode : Mode) → ((sa sb : Standing) (holds : Bool) → Licence sa sb (by_mode mode holds sa sb)) → (t : Trees) (path : Names)
+takes_only : (mode : Mode) → ((sa sb : Comparison) (holds : Bool) → Licence sa sb (by_mode mode holds sa sb)) → (t : Trees) (path : Names)
     → IfSome (change_at mode t path) (TakesOnlyTheAncestors t)
 unfolding change_at
 takes_only mode licence t path =
-    let sa : Standing = standing t t.alpha path in
-    let sb : Standing = standing t t.beta path in
+    let sa : Comparison = comparison t t.alpha path in
+    let sb : Comparison = comparison t t.beta path in
     takes_by t path (verdict mode t path)
     (by_case (Licence sa sb) mode (trees.get t.alpha path) (trees.get t.beta path) sa sb (λ _ _. tt) (λ _. tt) (λ _ _. tt) (λ _. tt)
     (λ _ _ _ _. licence sa sb (is_some (trees.get t.alpha path))))
@@ -114,8 +114,8 @@ two_way_takes t path = takes_only TwoWaySafe (λ sa sb holds. licence_by sa.same
 pub one_way_takes : (t : Trees) (path : Names) → IfSome (change_at OneWaySafe t path) (TakesOnlyTheAncestors t)
 one_way_takes t path = takes_only OneWaySafe (λ sa sb holds. one_way_licence sa sb.same sb.less holds) t path
 
--- alpha's standing where alpha is changed
-abbrev AlphaLicence : Standing → Verdict → Type 0
+-- alpha's comparison where alpha is changed
+abbrev AlphaLicence : Comparison → Verdict → Type 0
 AlphaLicence sa verdicts.AlphaTakes = (sa.same || sa.less) ≡ true
 AlphaLicence sa verdicts.AlphaEmptied = (sa.same || sa.less) ≡ true
 AlphaLicence sa verdicts.BetaTakes = Unit {0}
@@ -147,7 +147,7 @@ alpha_licence OneWayReplica a al b bl holds = tt
 beta_is_not_alpha : Beta ≡ Alpha → ⊥
 beta_is_not_alpha e = cc
 
-alpha_by : (t : Trees) (path : Names) (v : Verdict) → AlphaLicence (standing t t.alpha path) v
+alpha_by : (t : Trees) (path : Names) (v : Verdict) → AlphaLicence (comparison t t.alpha path) v
     → IfSome (change_by t path v) (λ change. change.side ≡ Alpha → TakesOnlyTheAncestors t change)
 alpha_by t path verdicts.AlphaTakes h = λ _. of_alpha t path h
 alpha_by t path verdicts.AlphaEmptied h = λ _. of_alpha t path h
@@ -163,8 +163,8 @@ alpha_by t path verdicts.Both h = tt
 pub alpha_takes : (mode : Mode) (t : Trees) (path : Names) → IfSome (change_at mode t path) (λ change. change.side ≡ Alpha → TakesOnlyTheAncestors t change)
 unfolding change_at
 alpha_takes mode t path =
-    let sa : Standing = standing t t.alpha path in
-    let sb : Standing = standing t t.beta path in
+    let sa : Comparison = comparison t t.alpha path in
+    let sb : Comparison = comparison t t.beta path in
     alpha_by t path (verdict mode t path)
     (by_case (AlphaLicence sa) mode (trees.get t.alpha path) (trees.get t.beta path) sa sb (λ _ _. tt) (λ _. tt) (λ _ _. tt) (λ _. tt)
     (λ _ _ _ _. alpha_licence mode sa.same sa.less sb.same sb.less (is_some (trees.get t.alpha path))))

@@ -10,12 +10,12 @@ use Rattle.entry_tree.specs.declared.atom.Atom.TheVariants.{Dir, File, Link, Unt
 use Rattle.entry_tree.specs.declared.side.Side.TheVariants.{Beta}
 use Rattle.mode_rules.specs.declared.mode.Mode.{Mode}
 use Rattle.mode_rules.specs.declared.mode.Mode.TheVariants.{OneWaySafe, OneWayReplica}
-use Rattle.mode_rules.specs.declared.standing.Standing.{Standing}
+use Rattle.mode_rules.specs.declared.comparing.Comparison.{Comparison}
 use Rattle.mode_rules.specs.declared.verdict.Verdict.{Verdict}
 use Rattle.mode_rules.specs.declared.verdict.Verdict.TheVariants as verdicts
 use Rattle.mode_rules.specs.Trees.{Trees}
-use Rattle.mode_rules.specs.Verdicts.{by_mode, first_case, standing, verdict}
-use Rattle.mode_rules.proofs.Cases.{by_case}
+use Rattle.mode_rules.specs.Verdicts.{by_mode, first_case, comparison, verdict}
+use Rattle.mode_rules.proofs.Cases.{by_case, same_itself}
 use Rattle.mode_rules.specs.Plans.{change_at, change_by, conflict_at, conflict_by}
 
 kept_first : {Y : Type 0} (P : Y → Type 0) (o : Option Y) (ys : List Y) → IfSome o P → AllByRecursion P ys → AllByRecursion P (cons_option o ys)
@@ -36,7 +36,7 @@ none_kept f each (x ∷ xs) = subst (λ o. cons_option o (filter_map f xs) ≡ [
 abbrev BetaAlone : Verdict → Type 0
 BetaAlone v = (t : Trees) (path : Names) → IfSome (change_by t path v) (λ change. change.side ≡ Beta)
 
-safe_by_mode : (sa sb : Standing) (h : Bool) → BetaAlone (by_mode OneWaySafe h sa sb)
+safe_by_mode : (sa sb : Comparison) (h : Bool) → BetaAlone (by_mode OneWaySafe h sa sb)
 safe_by_mode sa sb h = by sb.less h
   where
     by : (less h : Bool) → BetaAlone (by_mode OneWaySafe h sa (record { same = sb.same; less = less }))
@@ -45,12 +45,12 @@ safe_by_mode sa sb h = by sb.less h
     by false false = λ t path. tt
 
 -- the cases before the mode change nothing
-beta_by_case : (mode : Mode) → ((sa sb : Standing) (h : Bool) → BetaAlone (by_mode mode h sa sb)) → (t : Trees) (path : Names)
+beta_by_case : (mode : Mode) → ((sa sb : Comparison) (h : Bool) → BetaAlone (by_mode mode h sa sb)) → (t : Trees) (path : Names)
     → IfSome (change_by t path (verdict mode t path)) (λ change. change.side ≡ Beta)
 beta_by_case mode by t path =
-    by_case BetaAlone mode (trees.get t.alpha path) (trees.get t.beta path) (standing t t.alpha path) (standing t t.beta path)
+    by_case BetaAlone mode (trees.get t.alpha path) (trees.get t.beta path) (comparison t t.alpha path) (comparison t t.beta path)
     (λ _ _ t path. tt) (λ _ t path. tt) (λ _ _ t path. tt) (λ _ t path. tt)
-    (λ _ _ _ _. by (standing t t.alpha path) (standing t t.beta path) (is_some (trees.get t.alpha path))) t path
+    (λ _ _ _ _. by (comparison t t.alpha path) (comparison t t.beta path) (is_some (trees.get t.alpha path))) t path
 
 pub safe_beta : (t : Trees) (path : Names) → IfSome (change_at OneWaySafe t path) (λ change. change.side ≡ Beta)
 unfolding change_at
@@ -61,11 +61,11 @@ unfolding change_at
 replica_beta t path = beta_by_case OneWayReplica (λ sa sb h t path. refl) t path
 
 -- where both sides hold the same, nothing is there, or it is agreed, or it is left
-equal_case : (P : Verdict → Type 0) (mode : Mode) (a : Option Atom) (sa sb : Standing) → P verdicts.Gone → P verdicts.Agreed → P verdicts.Left → P (first_case mode a a sa sb)
+equal_case : (P : Verdict → Type 0) (mode : Mode) (a : Option Atom) (sa sb : Comparison) → P verdicts.Gone → P verdicts.Agreed → P verdicts.Left → P (first_case mode a a sa sb)
 equal_case P mode None sa sb gone agreed left = gone
 equal_case P mode (Some Dir) sa sb gone agreed left = agreed
-equal_case P mode (Some (File d)) sa sb gone agreed left =
-    subst (λ b. P (cond b verdicts.Agreed (by_mode mode true sa sb))) (sym ((bytes_eq-Decides d d).1 refl)) agreed
+equal_case P mode (Some (File d x)) sa sb gone agreed left =
+    subst (λ b. P (cond b verdicts.Agreed (by_mode mode true sa sb))) (sym (same_itself (Some (File d x)))) agreed
 equal_case P mode (Some (Link x)) sa sb gone agreed left =
     subst (λ b. P (cond b verdicts.Agreed (by_mode mode true sa sb))) (sym ((bytes_eq-Decides x x).1 refl)) agreed
 equal_case P mode (Some Untracked) sa sb gone agreed left = left
@@ -73,7 +73,7 @@ equal_case P mode (Some (Problem k)) sa sb gone agreed left = left
 
 equal_verdict : (P : Verdict → Type 0) (mode : Mode) (t : Trees) (path : Names) → t.alpha ≡ t.beta → P verdicts.Gone → P verdicts.Agreed → P verdicts.Left → P (verdict mode t path)
 equal_verdict P mode t path same gone agreed left =
-    subst (λ (beta : ByPath Atom). P (first_case mode (trees.get t.alpha path) (trees.get beta path) (standing t t.alpha path) (standing t t.beta path))) same
+    subst (λ (beta : ByPath Atom). P (first_case mode (trees.get t.alpha path) (trees.get beta path) (comparison t t.alpha path) (comparison t t.beta path))) same
     (equal_case P mode (trees.get t.alpha path) _ _ gone agreed left)
 
 pub equal_changes : (mode : Mode) (t : Trees) (path : Names) → t.alpha ≡ t.beta → change_at mode t path ≡ None

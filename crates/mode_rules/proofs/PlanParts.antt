@@ -5,8 +5,8 @@ use Rattle.entry_tree.specs.Tree.{Names}
 use Rattle.mode_rules.specs.declared.mode.Mode.{Mode}
 use Rattle.mode_rules.specs.declared.halt.Halt.{Halt}
 use Rattle.mode_rules.specs.declared.conflict.Conflict.{Conflict}
-use Rattle.mode_rules.specs.declared.plan.Change.{Change}
-use Rattle.mode_rules.specs.declared.plan.AncestorLine.{AncestorLine}
+use Rattle.mode_rules.specs.declared.change.Change.{Change}
+use Rattle.mode_rules.specs.declared.ancestor_line.AncestorLine.{AncestorLine}
 use Rattle.mode_rules.specs.declared.plan.Plan.{Plan}
 use Rattle.mode_rules.specs.Trees.{Trees, paths_of, is_in_folders}
 use Rattle.mode_rules.specs.Plans.{plan_of, points_of, change_at, line_at, conflict_at}

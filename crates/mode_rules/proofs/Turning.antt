@@ -7,7 +7,7 @@ use Rattle.std.specs.Option.{is_some, option_map}
 use Rattle.std.specs.Ordering.{eq_by_cmp}
 use Rattle.std.proofs.lemmas.Bool.{or_cases, or_parts}
 use Rattle.std.proofs.lemmas.List.Elements.{filter_agree}
-use Rattle.sync_path.specs.Path.{path_cmp, is_under}
+use Rattle.sync_path.specs.Path.{path_cmp, is_under, is_below}
 use Rattle.entry_tree.specs.Tree.{Names, ByPath}
 use Rattle.entry_tree.specs.declared.atom.Atom.{Atom}
 use Rattle.entry_tree.proofs.Paths.{under_itself}
@@ -15,14 +15,14 @@ use Rattle.mode_rules.specs.declared.conflict.Reason.{Reason}
 use Rattle.mode_rules.specs.declared.conflict.Reason.TheVariants as reasons
 use Rattle.mode_rules.specs.declared.mode.Mode.TheVariants.{TwoWaySafe}
 use Rattle.mode_rules.specs.declared.halt.Halt.TheVariants as halts
-use Rattle.mode_rules.specs.declared.plan.Change.{Change}
-use Rattle.mode_rules.specs.declared.standing.Standing.{Standing}
+use Rattle.mode_rules.specs.declared.change.Change.{Change}
+use Rattle.mode_rules.specs.declared.comparing.Comparison.{Comparison}
 use Rattle.mode_rules.specs.declared.verdict.Verdict.{Verdict}
 use Rattle.mode_rules.specs.declared.verdict.Verdict.TheVariants as verdicts
 use Rattle.mode_rules.specs.Halts.{deletes_root, turns_root, top_of, is_emptied, one_of, halt_of}
 use Rattle.mode_rules.specs.Laws.{turned_trees, turned_change, turned_conflict, turned_plan}
-use Rattle.mode_rules.specs.Trees.{Trees, paths_of, is_point, is_in_folders, is_above, holds_folder, holds_tracked, is_blocked, is_same_at, is_less_at, same_there}
-use Rattle.mode_rules.specs.Verdicts.{by_mode, standing, verdict}
+use Rattle.mode_rules.specs.Trees.{Trees, paths_of, is_point, is_in_folders, holds_folder, holds_tracked, is_blocked, is_same_at, is_less_at, same_there}
+use Rattle.mode_rules.specs.Verdicts.{by_mode, comparison, verdict}
 use Rattle.mode_rules.specs.Plans.{points_of, change_at, change_by, line_at, line_of, taken, conflict_at, conflict_by, conflict, plan_of}
 use Rattle.mode_rules.proofs.Cases.{by_case, same_is, same_itself, less_is, Differ, both_the_same, one_holds, not_both}
 use Rattle.mode_rules.proofs.Held.{has_alphas, has_betas, same_each, less_each}
@@ -54,13 +54,13 @@ turned_paths t =
 turned_point : (t : Trees) (q : Names) → is_point (turned_trees t) q ≡ is_point t q
 unfolding is_in_folders
 turned_point t q =
-    λ i. list_all (λ p. not (is_above p q) || and_turned (holds_folder (trees.get t.beta p)) (holds_folder (trees.get t.alpha p)) i) (turned_paths t i)
+    λ i. list_all (λ p. not (is_below q p) || and_turned (holds_folder (trees.get t.beta p)) (holds_folder (trees.get t.alpha p)) i) (turned_paths t i)
 
 pub turned_points : (t : Trees) → points_of (turned_trees t) ≡ points_of t
 turned_points t = filter_agree (is_point (turned_trees t)) (is_point t) (turned_point t) (paths_of (turned_trees t)) ∙ ap (filter (is_point t)) (turned_paths t)
 
-turned_standing : (t : Trees) (side : ByPath Atom) (path : Names) → standing (turned_trees t) side path ≡ standing t side path
-turned_standing t side path = λ i. record {
+turned_comparison : (t : Trees) (side : ByPath Atom) (path : Names) → comparison (turned_trees t) side path ≡ comparison t side path
+turned_comparison t side path = λ i. record {
   same = list_all (is_same_at t.ancestor side) (filter (λ p. is_under p path) (turned_paths t i));
   less = list_all (is_less_at t.ancestor side) (filter (λ p. is_under p path) (turned_paths t i));
 }
@@ -78,7 +78,7 @@ turned_verdict verdicts.Agreed = verdicts.Agreed
 turned_verdict verdicts.BetaKeeps = verdicts.BetaKeeps
 turned_verdict verdicts.Both = verdicts.Both
 
-abbrev stands : Bool → Bool → Standing
+abbrev stands : Bool → Bool → Comparison
 stands same less = record { same = same; less = less }
 
 -- where not both sides are the same, and of two sides that are less one alone holds something, the mode decides alike
@@ -113,11 +113,11 @@ module _ (t : Trees) (path : Names) where
   abbrev at_beta : Option Atom
   at_beta = trees.get t.beta path
 
-  abbrev of_alpha : Standing
-  of_alpha = standing t t.alpha path
+  abbrev of_alpha : Comparison
+  of_alpha = comparison t t.alpha path
 
-  abbrev of_beta : Standing
-  of_beta = standing t t.beta path
+  abbrev of_beta : Comparison
+  of_beta = comparison t t.beta path
 
   has : Differ at_alpha at_beta → list_any (eq_by_cmp path_cmp path) (paths_of t) ≡ true
   has d = elim (or_cases (is_some at_alpha) (is_some at_beta) d.some) [ inl alphas ↦ has_alphas t path alphas | inr betas ↦ has_betas t path betas ]
@@ -136,7 +136,7 @@ module _ (t : Trees) (path : Names) where
   verdict_turned =
       (λ i. cond (or_turned (is_blocked at_beta) (is_blocked at_alpha) i) (cond (or_turned (holds_tracked at_beta) (holds_tracked at_alpha) i) verdicts.Blocked verdicts.Left)
       (cond (and_turned (not (is_some at_beta)) (not (is_some at_alpha)) i) verdicts.Gone
-      (cond (same_turned at_alpha at_beta i) verdicts.Agreed (by_mode TwoWaySafe (is_some at_beta) (turned_standing t t.beta path i) (turned_standing t t.alpha path i)))))
+      (cond (same_turned at_alpha at_beta i) verdicts.Agreed (by_mode TwoWaySafe (is_some at_beta) (turned_comparison t t.beta path i) (turned_comparison t t.alpha path i)))))
       ∙ turned_cond (is_blocked at_alpha || is_blocked at_beta) _ _ _ _
       (turned_cond (holds_tracked at_alpha || holds_tracked at_beta) verdicts.Blocked verdicts.Left verdicts.Blocked verdicts.Left refl (λ _. refl))
       (λ free. turned_cond (not (is_some at_alpha) && not (is_some at_beta)) verdicts.Gone _ verdicts.Gone _ refl
@@ -180,7 +180,7 @@ conflict_turned t path verdicts.Agreed = refl
 conflict_turned t path verdicts.BetaKeeps = refl
 conflict_turned t path verdicts.Both = ap Some (found_turned t path reasons.Both)
 
-two_way_case : (P : Verdict → Type 0) (sa sb : Standing) (h : Bool)
+two_way_case : (P : Verdict → Type 0) (sa sb : Comparison) (h : Bool)
     → P verdicts.AlphaTakes → P verdicts.BetaTakes → P verdicts.AlphaEmptied → P verdicts.BetaEmptied → P verdicts.Both → P (by_mode TwoWaySafe h sa sb)
 two_way_case P sa sb h at bt ae be both = by sa.same sa.less sb.same sb.less h
   where
@@ -197,10 +197,10 @@ line_turned : (t : Trees) (path : Names)
     → line_of path (trees.get t.ancestor path) (trees.get t.beta path) (turned_verdict (verdict TwoWaySafe t path))
     ≡ line_of path (trees.get t.ancestor path) (trees.get t.alpha path) (verdict TwoWaySafe t path)
 line_turned t path =
-    by_case alike TwoWaySafe (trees.get t.alpha path) (trees.get t.beta path) (standing t t.alpha path) (standing t t.beta path)
+    by_case alike TwoWaySafe (trees.get t.alpha path) (trees.get t.beta path) (comparison t t.alpha path) (comparison t t.beta path)
     (λ _ _. refl) (λ _. refl) (λ _ _. refl)
     (λ same. ap (taken path (trees.get t.ancestor path)) (sym same))
-    (λ _ _ _ _. two_way_case alike (standing t t.alpha path) (standing t t.beta path) (is_some (trees.get t.alpha path)) refl refl refl refl refl)
+    (λ _ _ _ _. two_way_case alike (comparison t t.alpha path) (comparison t t.beta path) (is_some (trees.get t.alpha path)) refl refl refl refl refl)
   where
     alike : Verdict → Type 0
     alike v = line_of path (trees.get t.ancestor path) (trees.get t.beta path) (turned_verdict v) ≡ line_of path (trees.get t.ancestor path) (trees.get t.alpha path) v

@@ -8,7 +8,7 @@ use Rattle.mode_rules.specs.declared.mode.Mode.{Mode}
 use Rattle.mode_rules.specs.declared.mode.Mode.TheVariants.{TwoWaySafe, TwoWayResolved, OneWaySafe, OneWayReplica}
 use Rattle.mode_rules.specs.declared.halt.Halt.{Halt}
 use Rattle.mode_rules.specs.declared.halt.Halt.TheVariants as halts
-use Rattle.mode_rules.specs.declared.plan.Change.{Change}
+use Rattle.mode_rules.specs.declared.change.Change.{Change}
 use Rattle.mode_rules.specs.Trees.{Trees, holds_tracked, holds_folder, compared}
 
 -- the root has no names

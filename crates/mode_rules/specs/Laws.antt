@@ -12,7 +12,7 @@ use Rattle.entry_tree.specs.declared.side.Side.{Side}
 use Rattle.entry_tree.specs.declared.side.Side.TheVariants.{Alpha, Beta}
 use Rattle.mode_rules.specs.declared.conflict.Conflict.{Conflict}
 use Rattle.mode_rules.specs.declared.mode.Mode.{Mode}
-use Rattle.mode_rules.specs.declared.plan.Change.{Change}
+use Rattle.mode_rules.specs.declared.change.Change.{Change}
 use Rattle.mode_rules.specs.declared.plan.Plan.{Plan}
 use Rattle.mode_rules.specs.Trees.{Trees, compared}
 use Rattle.mode_rules.specs.Plans.{plan_of}

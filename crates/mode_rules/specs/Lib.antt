@@ -1,6 +1,11 @@
 pub mod Trees
 pub mod Verdicts
 pub mod Plans
+pub mod AncestorFold
+pub mod Placing
 pub mod Halts
 pub mod Sights
 pub mod Laws
+pub mod ChangeLaws
+pub mod PointLaws
+pub mod AgreedLaws

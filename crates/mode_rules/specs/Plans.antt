@@ -3,37 +3,37 @@ use Rattle.std.specs.Prelude.{List, Option, Some, None, if◌then◌else◌, is_
 use Rattle.std.specs.List.{filter, filter_map}
 use Rattle.std.specs.Option.{option_map}
 use Rattle.std.specs.FinMap as trees
-use Rattle.entry_tree.specs.Tree.{Names, ByPath, part, folders_above}
+use Rattle.entry_tree.specs.Subtree.{subtree}
+use Rattle.entry_tree.specs.Tree.{Names, ByPath}
 use Rattle.entry_tree.specs.declared.atom.Atom.{Atom}
 use Rattle.entry_tree.specs.declared.side.Side.TheVariants.{Alpha, Beta}
 use Rattle.mode_rules.specs.declared.mode.Mode.{Mode}
 use Rattle.mode_rules.specs.declared.conflict.Conflict.{Conflict}
 use Rattle.mode_rules.specs.declared.conflict.Reason.{Reason}
-use Rattle.mode_rules.specs.declared.conflict.Reason.TheVariants as reasons
-use Rattle.mode_rules.specs.declared.plan.Change.{Change}
-use Rattle.mode_rules.specs.declared.plan.AncestorLine.{AncestorLine}
-use Rattle.mode_rules.specs.declared.plan.AncestorLine.TheVariants as lines
+use Rattle.mode_rules.specs.declared.change.Change.{Change}
+use Rattle.mode_rules.specs.declared.ancestor_line.AncestorLine.{AncestorLine}
+use Rattle.mode_rules.specs.declared.ancestor_line.AncestorLine.TheVariants as lines
 use Rattle.mode_rules.specs.declared.plan.Plan.{Plan}
 use Rattle.mode_rules.specs.declared.verdict.Verdict.{Verdict}
 use Rattle.mode_rules.specs.declared.verdict.Verdict.TheVariants as verdicts
 use Rattle.mode_rules.specs.Trees.{Trees, paths_of, is_point, differing, same_there}
-use Rattle.mode_rules.specs.Verdicts.{verdict}
+use Rattle.mode_rules.specs.Verdicts.{verdict, reason_of}
 use Rattle.mode_rules.specs.Halts.{halt_of}
 
--- alpha at and below the path becomes this
+-- the change by which alpha comes to hold this at and below the path
 abbrev pub change_alpha : Trees → Names → ByPath Atom → Change
-change_alpha t path new = record { side = Alpha; at = path; old = part t.alpha path; new = new }
+change_alpha t path new = record { side = Alpha; at = path; old = subtree t.alpha path; new = new }
 
--- beta at and below the path becomes this
+-- the change by which beta comes to hold this at and below the path
 abbrev pub change_beta : Trees → Names → ByPath Atom → Change
-change_beta t path new = record { side = Beta; at = path; old = part t.beta path; new = new }
+change_beta t path new = record { side = Beta; at = path; old = subtree t.beta path; new = new }
 
 -- the change that a decision makes
 abbrev pub change_by : Trees → Names → Verdict → Option Change
-change_by t path verdicts.AlphaTakes = Some (change_alpha t path (part t.beta path))
-change_by t path verdicts.AlphaEmptied = Some (change_alpha t path (folders_above t.alpha path))
-change_by t path verdicts.BetaTakes = Some (change_beta t path (part t.alpha path))
-change_by t path verdicts.BetaEmptied = Some (change_beta t path (folders_above t.beta path))
+change_by t path verdicts.AlphaTakes = Some (change_alpha t path (subtree t.beta path))
+change_by t path verdicts.AlphaEmptied = Some (change_alpha t path trees.empty)
+change_by t path verdicts.BetaTakes = Some (change_beta t path (subtree t.alpha path))
+change_by t path verdicts.BetaEmptied = Some (change_beta t path trees.empty)
 change_by t path verdicts.Left = None
 change_by t path verdicts.Blocked = None
 change_by t path verdicts.Gone = None
@@ -69,16 +69,7 @@ conflict t path reason =
 
 -- the conflict that a decision reports
 abbrev pub conflict_by : Trees → Names → Verdict → Option Conflict
-conflict_by t path verdicts.Blocked = Some (conflict t path reasons.Blocked)
-conflict_by t path verdicts.Both = Some (conflict t path reasons.Both)
-conflict_by t path verdicts.Left = None
-conflict_by t path verdicts.Gone = None
-conflict_by t path verdicts.Agreed = None
-conflict_by t path verdicts.AlphaTakes = None
-conflict_by t path verdicts.BetaTakes = None
-conflict_by t path verdicts.AlphaEmptied = None
-conflict_by t path verdicts.BetaEmptied = None
-conflict_by t path verdicts.BetaKeeps = None
+conflict_by t path v = option_map (conflict t path) (reason_of v)
 
 -- the paths that are decided, in path order
 abbrev pub points_of : Trees → List Names
@@ -96,7 +87,7 @@ line_at mode t path = line_of path (trees.get t.ancestor path) (trees.get t.alph
 unfoldable pub conflict_at : Mode → Trees → Names → Option Conflict
 conflict_at mode t path = conflict_by t path (verdict mode t path)
 
--- What a cycle is to do: the changes, the ancestor's lines and the conflicts of the paths that are decided, each in path order
+-- what a cycle is to do: the changes, the ancestor's lines and the conflicts of the paths that are decided, each in path order
 abbrev pub plan_of : Mode → Trees → Plan
 plan_of mode t = record {
   halt = halt_of mode t (filter_map (change_at mode t) (points_of t));

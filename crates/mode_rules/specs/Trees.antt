@@ -2,8 +2,9 @@
 use Rattle.std.specs.Prelude.{Bool, true, false, ◌&&◌, ◌||◌, not, List, ◌++◌, map, Option, Some, None}
 use Rattle.std.specs.List.{filter, list_all}
 use Rattle.std.specs.FinMap as trees
-use Rattle.sync_path.specs.Path.{is_under, path_cmp}
+use Rattle.sync_path.specs.Path.{is_under, is_below, path_cmp}
 use Rattle.entry_tree.specs.Tree.{Names, ByPath}
+use Rattle.entry_tree.specs.Tree.{holds_folder as has_folder}
 use Rattle.entry_tree.specs.Atom.{is_dir, is_tracked, same_atom}
 use Rattle.entry_tree.specs.declared.atom.Atom.{Atom}
 use Rattle.entry_tree.specs.declared.atom.Atom.TheVariants.{Dir, File, Link, Untracked, Problem}
@@ -26,14 +27,13 @@ is_blocked (Some atom) = not (is_tracked atom)
 
 -- a folder stands there
 abbrev pub holds_folder : Option Atom → Bool
-holds_folder None = false
-holds_folder (Some atom) = is_dir atom
+holds_folder found = has_folder is_dir found
 
 -- wherever a side is compared, what is untracked counts as nothing
 abbrev pub compared : Option Atom → Option Atom
 compared None = None
 compared (Some Dir) = Some Dir
-compared (Some (File digest)) = Some (File digest)
+compared (Some (File digest executable)) = Some (File digest executable)
 compared (Some (Link text)) = Some (Link text)
 compared (Some Untracked) = None
 compared (Some (Problem kind)) = Some (Problem kind)
@@ -77,14 +77,10 @@ less t side path = list_all (is_less_at t.ancestor side) (paths_at t path)
 abbrev pub differing : Trees → ByPath Atom → Names → List Names
 differing t side path = filter (λ p. not (is_same_at t.ancestor side p)) (paths_at t path)
 
--- whether a path lies above another
-abbrev pub is_above : Names → Names → Bool
-is_above upper path = is_under path upper && not (is_under upper path)
-
 -- whether each of these paths that lies above the path is a folder on both sides
 unfoldable pub is_in_folders : ByPath Atom → ByPath Atom → List Names → Names → Bool
 is_in_folders alpha beta paths path =
-    list_all (λ p. not (is_above p path) || (holds_folder (trees.get alpha p) && holds_folder (trees.get beta p))) paths
+    list_all (λ p. not (is_below path p) || (holds_folder (trees.get alpha p) && holds_folder (trees.get beta p))) paths
 
 -- a path is decided on its own where each path above it is a folder on both sides
 -- (a tree is closed under parents, so each path above one that it holds is among these)

@@ -1,36 +1,37 @@
-// The changes of what is decided.
+//! The changes that decisions make.
 ghost use Rattle.std.specs.Prelude.{◌≡◌, Some, IfOk};
 ghost use Rattle.std.specs.List.{filter_map};
-ghost use Rattle.entry_tree.specs.Tree.{part, folders_above};
+ghost use Rattle.std.specs.FinMap as trees;
+ghost use Rattle.entry_tree.specs.Subtree.{subtree};
 ghost use Rattle.mode_rules.specs.Trees.{paths_of};
 ghost use Rattle.mode_rules.specs.Plans.{change_at, change_by};
 ghost use Rattle.mode_rules.specs.Sights.{trees_of};
 
+use crate::change::Change;
 use crate::mode::Mode;
-use crate::plan::Change;
 use crate::sight::Sight;
 use crate::verdict::Verdict;
-use entry_tree::{Side, Tree};
+use entry_tree::{Side, Subtree, Tree};
 use sqlite_items::Items;
 use std::alloc::{AllocError, Global};
 use sync_path::Path;
 
-// A side at and below the path becomes this.
+// The change by which a side comes to hold this at and below the path.
 fn change(
     alloc: Global,
     side: Side,
     held: &Tree,
     path: &Path,
-    new: Tree,
+    new: Subtree,
 ) -> Result<Change, AllocError>
-    ensures { IfOk result (λ change. change ≡ record { side = side; at = path.now; old = part held.now path.now; new = new }) }
+    ensures { IfOk result (λ change. change ≡ record { side = side; at = path.now; old = subtree held.now path.now; new = new }) }
 {
-    let old = held.part(alloc, path)?;
+    let old = held.subtree(alloc, path)?;
     let at = path.copy(alloc)?;
     Ok(Change { side, at, old, new })
 }
 
-// One side takes what the other holds at and below the path.
+// The change by which one side takes what the other holds at and below the path.
 fn taking(
     alloc: Global,
     side: Side,
@@ -38,32 +39,31 @@ fn taking(
     other: &Tree,
     path: &Path,
 ) -> Result<Option<Change>, AllocError>
-    ensures { IfOk result (λ change. change ≡ Some (record { side = side; at = path.now; old = part held.now path.now; new = part other.now path.now })) }
+    ensures { IfOk result (λ change. change ≡ Some (record { side = side; at = path.now; old = subtree held.now path.now; new = subtree other.now path.now })) }
 {
-    let new = other.part(alloc, path)?;
+    let new = other.subtree(alloc, path)?;
     match change(alloc, side, held, path, new) {
         Ok(change) => Ok(Some(change)),
         Err(error) => Err(error),
     }
 }
 
-// One side is emptied at and below the path.
+// The change by which a side is emptied at and below the path.
 fn emptying(
     alloc: Global,
     side: Side,
     held: &Tree,
     path: &Path,
 ) -> Result<Option<Change>, AllocError>
-    ensures { IfOk result (λ change. change ≡ Some (record { side = side; at = path.now; old = part held.now path.now; new = folders_above held.now path.now })) }
+    ensures { IfOk result (λ change. change ≡ Some (record { side = side; at = path.now; old = subtree held.now path.now; new = trees.empty })) }
 {
-    let new = held.folders_above(alloc, path)?;
-    match change(alloc, side, held, path, new) {
+    match change(alloc, side, held, path, Subtree::new(alloc)) {
         Ok(change) => Ok(Some(change)),
         Err(error) => Err(error),
     }
 }
 
-/// The change that a decision makes, if any. Cost: O(log n), and what it lists.
+/// The change that a decision makes at a path, if any. Cost: O(log n) comparisons of paths, and the lengths of what it lists.
 pub fn change_by(
     alloc: Global,
     sight: &Sight,
@@ -86,7 +86,7 @@ pub fn change_by(
     }
 }
 
-// The change of what is decided at a path.
+// The change that is made at a path.
 #[tactic(auto, unfolding(crate::specs::Plans::change_at))]
 fn change_at(
     alloc: Global,
@@ -101,7 +101,7 @@ fn change_at(
     change_by(alloc, sight, path, sight.verdict(mode, paths, path))
 }
 
-/// The changes of the paths that are decided.
+/// The changes at these points.
 pub(crate) fn changes_of(
     alloc: Global,
     mode: Mode,

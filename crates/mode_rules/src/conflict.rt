@@ -1,4 +1,4 @@
-// Paths at which nothing was changed, since the mode doesn't say which side is right.
+//! Paths at which nothing was changed, since the mode doesn't say which side is right.
 ghost use Rattle.std.specs.Prelude.{◌≡◌, IfOk};
 
 use crate::copies::{Copied, copied_items};

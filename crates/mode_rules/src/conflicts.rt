@@ -1,14 +1,14 @@
-// The conflicts of what is decided.
+//! The conflicts that decisions report.
 ghost use Rattle.std.specs.Prelude.{◌≡◌, IfOk};
 ghost use Rattle.std.specs.List.{filter_map};
 ghost use Rattle.mode_rules.specs.Trees.{paths_of};
 ghost use Rattle.mode_rules.specs.Plans.{conflict_at, conflict_by, conflict};
 ghost use Rattle.mode_rules.specs.Sights.{trees_of};
 
+use crate::comparing::differing;
 use crate::conflict::{Conflict, Reason};
 use crate::mode::Mode;
 use crate::sight::Sight;
-use crate::standing::differing;
 use crate::verdict::Verdict;
 use sqlite_items::Items;
 use std::alloc::{AllocError, Global};
@@ -47,17 +47,8 @@ fn conflict_by(
     requires { paths.now ≡ paths_of (trees_of sight.now) }
     ensures { IfOk result (λ found. found ≡ conflict_by (trees_of sight.now) path.now verdict) }
 {
-    let reason = match verdict {
-        Verdict::Blocked => Reason::Blocked,
-        Verdict::Both => Reason::Both,
-        Verdict::Left
-        | Verdict::Gone
-        | Verdict::Agreed
-        | Verdict::AlphaTakes
-        | Verdict::BetaTakes
-        | Verdict::AlphaEmptied
-        | Verdict::BetaEmptied
-        | Verdict::BetaKeeps => return Ok(None),
+    let Some(reason) = verdict.reason() else {
+        return Ok(None);
     };
     match conflict(alloc, sight, paths, path, reason) {
         Ok(found) => Ok(Some(found)),
@@ -65,7 +56,7 @@ fn conflict_by(
     }
 }
 
-// The conflict of what is decided at a path.
+// The conflict that is reported at a path.
 #[tactic(auto, unfolding(crate::specs::Plans::conflict_at))]
 fn conflict_at(
     alloc: Global,
@@ -80,7 +71,7 @@ fn conflict_at(
     conflict_by(alloc, sight, paths, path, sight.verdict(mode, paths, path))
 }
 
-/// The conflicts of the paths that are decided.
+/// The conflicts at these points.
 pub(crate) fn conflicts_of(
     alloc: Global,
     mode: Mode,

@@ -1,4 +1,4 @@
-// Copies of lists.
+//! Copies of lists.
 ghost use Rattle.std.specs.Prelude.{◌≡◌, IfOk};
 
 use sqlite_items::Items;

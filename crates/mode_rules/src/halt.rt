@@ -1,4 +1,4 @@
-// Why a cycle stops before it changes anything.
+//! Why a cycle stops before it changes anything.
 
 /// Why a cycle stops before it changes anything. The names are Mutagen's.
 #[derive(Clone, Copy, Debug, PartialEq, Eq)]

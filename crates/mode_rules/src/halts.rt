@@ -1,15 +1,15 @@
-// Why a cycle stops before it changes anything.
+//! Why a cycle stops before it changes anything.
 ghost use Rattle.std.specs.Prelude.{◌≡◌, [], length, nat_le};
 ghost use Rattle.std.specs.List.{list_any};
 ghost use Rattle.mode_rules.specs.Halts.{deletes_root, turns_root, is_at_top, top_of, counts, is_emptied, is_two_way, one_of, empties_root, halt_of};
 ghost use Rattle.mode_rules.specs.Sights.{trees_of};
 
+use crate::change::Change;
+use crate::comparing::compared;
 use crate::halt::Halt;
 use crate::mode::Mode;
-use crate::plan::Change;
 use crate::points::holds_folder;
 use crate::sight::Sight;
-use crate::standing::compared;
 use crate::verdict::holds_tracked;
 use entry_tree::{Atom, Tree};
 use std::alloc::Global;

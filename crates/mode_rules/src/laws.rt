@@ -1,5 +1,8 @@
 //! What every plan keeps to, for all trees. Each law is the contract of a function that does nothing.
 ghost use Rattle.mode_rules.specs.Laws.{TakesNothingElse, TakesNothingElseOfAlpha, ChangesBetaAlone, LeavesEqualSides, MakesSidesMeet, TreatsSidesAlike};
+ghost use Rattle.mode_rules.specs.ChangeLaws.{TakesFromOthers, ReplacesOnlyOthers, AreLicensed, AreLicensedOfAlpha};
+ghost use Rattle.mode_rules.specs.AgreedLaws.{KeepsAncestor};
+ghost use Rattle.mode_rules.specs.PointLaws.{KeepsApart, LeavesConflicts, MeetsAtChanges, MeetsAtPoints};
 ghost use Rattle.mode_rules.specs.declared.mode.Mode.{Mode};
 
 /// In both safe modes a side is changed only where all that it holds at and below the path, what is untracked apart, is what the ancestor holds in the same
@@ -37,4 +40,46 @@ pub fn sides_meet()
     ensures safe { MakesSidesMeet Mode.TwoWaySafe }
     ensures resolved { MakesSidesMeet Mode.TwoWayResolved }
     ensures replica { MakesSidesMeet Mode.OneWayReplica }
+{}
+
+/// Each change goes from what its side holds at and below its path to what the other side holds there, in every mode.
+pub fn changes_take_from_the_other_side()
+    ensures { (mode : Mode) → TakesFromOthers mode }
+{}
+
+/// In every mode no path at or below a change's holds on the other side what it holds on the side that is changed.
+pub fn changes_replace_only_what_differs()
+    ensures { (mode : Mode) → ReplacesOnlyOthers mode }
+{}
+
+/// What a change may take away: in both safe modes, and on alpha in every mode, each tracked atom at or below the change's path is the ancestor's there, and
+/// the other side doesn't hold it.
+pub fn changes_are_licensed()
+    ensures two_way { AreLicensed Mode.TwoWaySafe }
+    ensures one_way { AreLicensed Mode.OneWaySafe }
+    ensures of_alpha { (mode : Mode) → AreLicensedOfAlpha mode }
+{}
+
+/// How the paths of a plan lie to one another, in every mode: each list is in path order; of changes and conflicts no two lie at, above or below one another; and
+/// no line of the ancestor lies at or below one, while a line above one sets a folder.
+pub fn points_lie_apart()
+    ensures { (mode : Mode) → KeepsApart mode }
+{}
+
+/// In every mode the ancestor can take up the agreed lines one after the other, and is closed under parents and holds only what is tracked afterwards, where it
+/// held only what is tracked before.
+pub fn agreed_lines_can_be_taken_up()
+    ensures { (mode : Mode) → KeepsAncestor mode }
+{}
+
+/// In every mode, at and below a conflict's path both sides hold after all changes what they held, and the ancestor after all agreed lines.
+pub fn conflicts_are_left()
+    ensures { (mode : Mode) → LeavesConflicts mode }
+{}
+
+/// In every mode both sides hold the same, after all changes, at and below each change's path; and at each path that is decided at a point where the decision makes
+/// them the same, whatever is decided elsewhere.
+pub fn sides_meet_point_by_point()
+    ensures at_changes { (mode : Mode) → MeetsAtChanges mode }
+    ensures at_points { (mode : Mode) → MeetsAtPoints mode }
 {}

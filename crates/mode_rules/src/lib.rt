@@ -4,7 +4,10 @@
 //! a crate of its own, gives the same in one walk, by the parts that stand here.
 #![tactic(auto)]
 
+mod ancestor_line;
+mod change;
 mod changes;
+mod comparing;
 mod conflict;
 mod conflicts;
 mod copies;
@@ -15,26 +18,29 @@ mod lines;
 mod mode;
 mod path_set;
 mod paths;
+mod phase;
 mod plan;
 mod points;
 mod problem;
 mod report;
 mod sight;
-mod standing;
 mod table;
 mod verdict;
 
+pub use ancestor_line::AncestorLine;
+pub use change::{Change, PlacedFile};
 pub use changes::change_by;
+pub use comparing::{Comparison, compared, is_same};
 pub use conflict::{Conflict, Reason};
 pub use halt::Halt;
 pub use halts::halt_of;
 pub use lines::line_of;
 pub use mode::Mode;
-pub use plan::{AncestorLine, Change, Plan};
+pub use phase::Phase;
+pub use plan::Plan;
 pub use points::holds_folder;
 pub use problem::{Cause, Problem};
 pub use report::{CycleReport, Outcome};
 pub use sight::Sight;
-pub use standing::{Standing, compared, is_same};
 pub use table::settle;
 pub use verdict::{Verdict, first_case};

@@ -1,4 +1,4 @@
-// The lines by which the ancestor takes up what both sides agree on.
+//! The lines by which the ancestor takes up what both sides agree on.
 ghost use Rattle.std.specs.Prelude.{◌≡◌, IfOk};
 ghost use Rattle.std.specs.List.{filter_map};
 ghost use Rattle.std.specs.Option.{option_copied};
@@ -6,10 +6,10 @@ ghost use Rattle.mode_rules.specs.Trees.{paths_of};
 ghost use Rattle.mode_rules.specs.Plans.{line_at, line_of, dropped, taken};
 ghost use Rattle.mode_rules.specs.Sights.{trees_of};
 
+use crate::ancestor_line::AncestorLine;
+use crate::comparing::is_same;
 use crate::mode::Mode;
-use crate::plan::AncestorLine;
 use crate::sight::Sight;
-use crate::standing::is_same;
 use crate::verdict::Verdict;
 use entry_tree::Atom;
 use sqlite_items::Items;

@@ -1,4 +1,4 @@
-// How a session treats its two sides.
+//! How a session treats its two sides.
 
 /// How a session treats its two sides. The names are Mutagen's.
 #[derive(Clone, Copy, Debug, PartialEq, Eq)]

@@ -1,4 +1,4 @@
-// Sets of paths.
+//! Sets of paths.
 ghost use Rattle.std.specs.Prelude.{◌≡◌, ◌||◌, IfOk, OnOk};
 ghost use Rattle.std.specs.FinMap as trees;
 ghost use Rattle.std.specs.FinSet as set;

@@ -1,4 +1,4 @@
-// The paths that a decision goes over.
+//! The paths that a decision goes over.
 ghost use Rattle.std.specs.Prelude.{◌≡◌, IfOk};
 ghost use Rattle.mode_rules.specs.Trees.{paths_of};
 

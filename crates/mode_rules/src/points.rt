@@ -1,9 +1,9 @@
-// The paths that are decided.
+//! The paths that are decided.
 ghost use Rattle.std.specs.Prelude.{◌≡◌, ◌&&◌, IfOk};
 ghost use Rattle.std.specs.FinMap as trees;
 ghost use Rattle.std.specs.List.{filter};
 ghost use Rattle.std.specs.Option.{option_copied};
-ghost use Rattle.mode_rules.specs.Trees.{holds_folder, is_above, is_in_folders};
+ghost use Rattle.mode_rules.specs.Trees.{holds_folder, is_in_folders};
 
 use entry_tree::{Atom, Tree};
 use sqlite_items::Items;
@@ -27,13 +27,6 @@ pub fn holds_folder(atom: Option<&Atom>) -> bool
     }
 }
 
-// Whether a path lies above another.
-fn is_above(upper: &Path, path: &Path) -> bool
-    ensures { result ≡ is_above upper.now path.now }
-{
-    path.is_under(upper) && !upper.is_under(path)
-}
-
 // Whether each of these paths that lies above the path is a folder on both sides.
 #[tactic(auto, unfolding(crate::specs::Trees::is_in_folders))]
 fn is_in_folders(alpha: &Tree, beta: &Tree, paths: &[Path], path: &Path) -> bool
@@ -41,7 +34,7 @@ fn is_in_folders(alpha: &Tree, beta: &Tree, paths: &[Path], path: &Path) -> bool
 {
     paths
         .iter()
-        .all(|p| !is_above(p, path) || are_folders(alpha, beta, p))
+        .all(|p| !path.is_below(p) || are_folders(alpha, beta, p))
 }
 
 /// Those of the paths above which each path is a folder on both sides.

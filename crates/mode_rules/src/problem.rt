@@ -1,4 +1,4 @@
-// What could not be done in a cycle.
+//! What couldn't be seen or done in a cycle.
 ghost use Rattle.std.specs.Prelude.{◌≡◌, IfOk, OnErr};
 ghost use Rattle.entry_tree.specs.Tree.{Names};
 
@@ -24,6 +24,8 @@ pub enum Cause {
     NoParent,
     /// The root keeps no links.
     NoLink,
+    /// The root keeps no executable bits.
+    NoExec,
     /// The bytes that were staged are not those that were wanted.
     DigestDiffers {
         /// The digest that was wanted.
@@ -64,6 +66,7 @@ impl Cause {
             Cause::NotEmpty => Ok(Cause::NotEmpty),
             Cause::NoParent => Ok(Cause::NoParent),
             Cause::NoLink => Ok(Cause::NoLink),
+            Cause::NoExec => Ok(Cause::NoExec),
             Cause::DigestDiffers { wanted, got } => Ok(Cause::DigestDiffers {
                 wanted: *wanted,
                 got: *got,

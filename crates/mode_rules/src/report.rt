@@ -1,4 +1,4 @@
-// How a cycle ended.
+//! How a cycle ended.
 ghost use Rattle.std.specs.Prelude.{◌≡◌, IfOk};
 
 use crate::conflict::Conflict;

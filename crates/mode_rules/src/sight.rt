@@ -1,10 +1,10 @@
-// What a decision looks at.
+//! What a decision looks at.
 ghost use Rattle.std.specs.Prelude.{◌≡◌};
 ghost use Rattle.mode_rules.specs.Trees.{paths_of};
-ghost use Rattle.mode_rules.specs.Verdicts.{standing, verdict};
+ghost use Rattle.mode_rules.specs.Verdicts.{comparison, verdict};
 
+use crate::comparing::{Comparison, is_less_under, is_same_under};
 use crate::mode::Mode;
-use crate::standing::{Standing, is_less_under, is_same_under};
 use crate::verdict::{Verdict, first_case};
 use entry_tree::Tree;
 use sync_path::Path;
@@ -24,11 +24,11 @@ impl<'a> Sight<'a> {
     ghost use Rattle.mode_rules.specs.Sights.{trees_of};
 
     // How a side stands to the ancestor, at and below a path.
-    fn standing(&self, side: &Tree, paths: &[Path], path: &Path) -> Standing
+    fn comparison(&self, side: &Tree, paths: &[Path], path: &Path) -> Comparison
         requires { paths.now ≡ paths_of (trees_of self.now) }
-        ensures { result ≡ standing (trees_of self.now) side.now path.now }
+        ensures { result ≡ comparison (trees_of self.now) side.now path.now }
     {
-        Standing {
+        Comparison {
             same: is_same_under(self.ancestor, side, paths, path),
             less: is_less_under(self.ancestor, side, paths, path),
         }
@@ -39,8 +39,8 @@ impl<'a> Sight<'a> {
         requires { paths.now ≡ paths_of (trees_of self.now) }
         ensures { result ≡ verdict mode (trees_of self.now) path.now }
     {
-        let alpha = self.standing(self.alpha, paths, path);
-        let beta = self.standing(self.beta, paths, path);
+        let alpha = self.comparison(self.alpha, paths, path);
+        let beta = self.comparison(self.beta, paths, path);
         first_case(mode, self.alpha.get(path), self.beta.get(path), alpha, beta)
     }
 }

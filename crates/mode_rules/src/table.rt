@@ -1,4 +1,4 @@
-// The plain, slow table: each path on its own.
+//! The plain, slow table: each path on its own.
 ghost use Rattle.std.specs.Prelude.{◌≡◌, IfOk};
 ghost use Rattle.mode_rules.specs.Trees.{paths_of};
 ghost use Rattle.mode_rules.specs.Plans.{plan_of};

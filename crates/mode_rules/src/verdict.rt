@@ -1,11 +1,12 @@
-// What is decided at a path.
+//! What is decided at a path.
 ghost use Rattle.std.specs.Prelude.{◌≡◌};
 ghost use Rattle.std.specs.Option.{option_copied};
 ghost use Rattle.mode_rules.specs.Trees.{holds_tracked, is_blocked};
-ghost use Rattle.mode_rules.specs.Verdicts.{first_case, by_mode};
+ghost use Rattle.mode_rules.specs.Verdicts.{first_case, by_mode, reason_of};
 
+use crate::comparing::{Comparison, is_same};
+use crate::conflict::Reason;
 use crate::mode::Mode;
-use crate::standing::{Standing, is_same};
 use entry_tree::Atom;
 
 /// What is decided at a path whose parents are folders on both sides.
@@ -33,13 +34,33 @@ pub enum Verdict {
     Both,
 }
 
+impl Verdict {
+    /// Why this is a conflict, if it is one.
+    pub fn reason(self) -> Option<Reason>
+        ensures { result ≡ reason_of self }
+    {
+        match self {
+            Verdict::Blocked => Some(Reason::Blocked),
+            Verdict::Both => Some(Reason::Both),
+            Verdict::Left
+            | Verdict::Gone
+            | Verdict::Agreed
+            | Verdict::AlphaTakes
+            | Verdict::BetaTakes
+            | Verdict::AlphaEmptied
+            | Verdict::BetaEmptied
+            | Verdict::BetaKeeps => None,
+        }
+    }
+}
+
 /// What is decided at a path, by what alpha and beta hold there and how they stand to the ancestor at and below it: the first case that holds.
 pub fn first_case(
     mode: Mode,
     at_alpha: Option<&Atom>,
     at_beta: Option<&Atom>,
-    alpha: Standing,
-    beta: Standing,
+    alpha: Comparison,
+    beta: Comparison,
 ) -> Verdict
     ensures { result ≡ first_case mode (option_copied at_alpha.entry) (option_copied at_beta.entry) alpha beta }
 {
@@ -59,7 +80,7 @@ pub fn first_case(
 }
 
 // What the mode decides where the sides differ at the path.
-fn by_mode(mode: Mode, alpha_holds: bool, alpha: Standing, beta: Standing) -> Verdict
+fn by_mode(mode: Mode, alpha_holds: bool, alpha: Comparison, beta: Comparison) -> Verdict
     ensures { result ≡ by_mode mode alpha_holds alpha beta }
 {
     match mode {
@@ -74,7 +95,7 @@ fn by_mode(mode: Mode, alpha_holds: bool, alpha: Standing, beta: Standing) -> Ve
 }
 
 // What is decided where nothing may be lost on either side.
-fn both_ways(alpha_holds: bool, alpha: Standing, beta: Standing) -> Verdict
+fn both_ways(alpha_holds: bool, alpha: Comparison, beta: Comparison) -> Verdict
     ensures { result ≡ by_mode Mode.TwoWaySafe alpha_holds alpha beta }
 {
     if alpha.same {

@@ -24,7 +24,7 @@ _
 / d/ d/f=2 d/g=1
 / d/ d-=1 d/f!
 / d/ d/e/ d/e/f=1 d/e/u?
-/ d=1 d-=1";
+/ d*1 d-=1";
 
 // Whether the walk and the table give the same plan.
 fn agree(

@@ -1,9 +1,9 @@
 //! Plans as lines of text.
 //!
-//! A plan is its halt, then each change with its side, its path and, in brackets, what the side holds and is to hold there
-//! and above, then `set` and `drop` lines, then each conflict with its reason, its path and, in brackets, the paths of
+//! A plan is its halt, then each change with its side, its path and, in brackets, what the side holds and is to hold there,
+//! then `set` and `drop` lines, then each conflict with its reason, its path and, in brackets, the paths of
 //! alpha and of beta; `_` is a plan of nothing.
-use crate::trees::{push_entry, push_path, push_tree};
+use crate::trees::{push_entry, push_path, push_subtree};
 use entry_tree::Side;
 use mode_rules::{AncestorLine, Change, Conflict, Halt, Mode, Plan, Reason};
 use std::alloc::Global;
@@ -28,9 +28,9 @@ fn push_change(alloc: Global, text: &mut String, change: &Change) -> Result<(), 
     })?;
     push_path(alloc, text, &change.at)?;
     text.push_str(" (")?;
-    push_tree(alloc, text, &change.old)?;
+    push_subtree(alloc, text, &change.old)?;
     text.push_str(" ;")?;
-    push_tree(alloc, text, &change.new)?;
+    push_subtree(alloc, text, &change.new)?;
     text.push_str(" )")?;
     Ok(())
 }

@@ -1,8 +1,8 @@
 //! Trees as lines of text.
 //!
-//! A tree is its entries in path order: `d/` a folder (`/` the root), `f=x` a file of the bytes x, `l@x` a link, `u?` what is
+//! A tree is its entries in path order: `d/` a folder (`/` the root), `f=x` a file of the bytes x, `f*x` an executable one, `l@x` a link, `u?` what is
 //! untracked, `p!` a file that wasn't seen; `_` is nothing.
-use entry_tree::{Atom, Digest, ProblemKind, Text, Tree};
+use entry_tree::{Atom, Digest, ProblemKind, Subtree, Text, Tree};
 use std::alloc::Global;
 use std::test::Fail;
 use sync_path::Path;
@@ -16,6 +16,10 @@ fn put(alloc: Global, tree: &mut Tree, path: &str, atom: Atom) -> Result<(), Fai
     Ok(())
 }
 
+fn file(bytes: &str, executable: bool) -> Atom {
+    Atom::File(Digest::of(bytes.as_bytes()), executable)
+}
+
 /// The tree of a line.
 pub fn tree_of(alloc: Global, line: &str) -> Result<Tree, Fail> {
     let mut tree = Tree::new(alloc);
@@ -27,12 +31,9 @@ pub fn tree_of(alloc: Global, line: &str) -> Result<Tree, Fail> {
         } else if let Some(path) = word.strip_suffix('!') {
             put(alloc, &mut tree, path, Atom::Problem(ProblemKind::Changed))?;
         } else if let Some((path, bytes)) = word.split_once('=') {
-            put(
-                alloc,
-                &mut tree,
-                path,
-                Atom::File(Digest::of(bytes.as_bytes())),
-            )?;
+            put(alloc, &mut tree, path, file(bytes, false))?;
+        } else if let Some((path, bytes)) = word.split_once('*') {
+            put(alloc, &mut tree, path, file(bytes, true))?;
         } else if let Some((path, text)) = word.split_once('@') {
             put(alloc, &mut tree, path, Atom::Link(Text::read(alloc, text)?))?;
         }
@@ -65,8 +66,8 @@ pub fn push_entry(alloc: Global, text: &mut String, path: &Path, atom: &Atom) ->
     text.push_str(path.write(alloc)?.as_str())?;
     match atom {
         Atom::Dir => text.push_str("/")?,
-        Atom::File(digest) => {
-            text.push_str("=")?;
+        Atom::File(digest, executable) => {
+            text.push_str(if *executable { "*" } else { "=" })?;
             text.push_str(bytes_of(digest))?;
         }
         Atom::Link(link) => {
@@ -79,12 +80,12 @@ pub fn push_entry(alloc: Global, text: &mut String, path: &Path, atom: &Atom) ->
     Ok(())
 }
 
-/// Writes a tree, with a space before each entry.
-pub fn push_tree(alloc: Global, text: &mut String, tree: &Tree) -> Result<(), Fail> {
-    if tree.is_empty() {
+/// Writes a subtree, with a space before each entry.
+pub fn push_subtree(alloc: Global, text: &mut String, subtree: &Subtree) -> Result<(), Fail> {
+    if subtree.is_empty() {
         text.push_str(" _")?;
     }
-    for (path, atom) in tree.iter() {
+    for (path, atom) in subtree.entries() {
         text.push_str(" ")?;
         push_entry(alloc, text, path, atom)?;
     }

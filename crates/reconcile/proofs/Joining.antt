@@ -23,7 +23,7 @@ use Rattle.mode_rules.specs.Trees.{Trees, paths_of}
 use Rattle.mode_rules.proofs.Held.{has_path}
 use Rattle.reconcile.specs.declared.part.Part.{Part}
 use Rattle.reconcile.specs.declared.part.Part.TheVariants as parts
-use Rattle.reconcile.specs.Rows.{Three, PathRow, row_of, rows_of, nothing, with_part, front_len, held_at, met_len, joined}
+use Rattle.reconcile.specs.Rows.{Three, PathThree, row_of, rows_of, nothing, with_part, front_len, held_at, met_len, joined}
 use Rattle.reconcile.proofs.Order.{is_before, rises, keys_rise, map_rises, take_one, drop_one}
 
 abbrev keys : {X : Type 0} → List (Names × X) → List Names
@@ -117,24 +117,24 @@ module _ {X : Type 0} where
       (and_from (list_all (is_before e.0) (keys xs)) _ (all_front (is_before e.0) xs ys both.0).0 more.0, more.1)
 
 -- whether the first of the rows doesn't stand before the path
-abbrev stops : Names → List PathRow → Bool
+abbrev stops : Names → List PathThree → Bool
 stops k [] = true
 stops k (row ∷ rows) = not (is_before row.0 k)
 
 -- The rows before a path, and those from it on.
-record Split (k : Names) (rows front back : List PathRow) : Type 0 where
+record Split (k : Names) (rows front back : List PathThree) : Type 0 where
   whole : rows ≡ front ++ back
   before : all_before k front ≡ true
   stop : stops k back ≡ true
 
-split : (k : Names) (rows : List PathRow) → Split k rows (take (front_len k rows) rows) (drop (front_len k rows) rows)
+split : (k : Names) (rows : List PathThree) → Split k rows (take (front_len k rows) rows) (drop (front_len k rows) rows)
 split k [] = record { whole = refl; before = refl; stop = refl }
 split k (row ∷ rows) = by (is_before row.0 k) refl (split k rows)
   where
     by : (c : Bool) → is_before row.0 k ≡ c → Split k rows (take (front_len k rows) rows) (drop (front_len k rows) rows)
         → Split k (row ∷ rows) (take (cond c (1 + front_len k rows) 0) (row ∷ rows)) (drop (cond c (1 + front_len k rows) 0) (row ∷ rows))
     by true e s =
-        subst (λ (p : List PathRow × List PathRow). Split k (row ∷ rows) p.0 p.1) (λ i. (sym (take_one row rows (front_len k rows)) i, sym (drop_one row rows (front_len k rows)) i))
+        subst (λ (p : List PathThree × List PathThree). Split k (row ∷ rows) p.0 p.1) (λ i. (sym (take_one row rows (front_len k rows)) i, sym (drop_one row rows (front_len k rows)) i))
         (record { whole = ap (λ l. row ∷ l) s.whole; before = and_from (is_before row.0 k) _ e s.before; stop = s.stop })
     by false e s = record { whole = refl; before = refl; stop = ap not e }
 
@@ -150,7 +150,7 @@ combined_none part None = refl
 combined_none part (Some three) = refl
 
 -- What of the rows from a path on is left behind it.
-record Behind (part : Part) (k : Names) (back rest : List PathRow) : Type 0 where
+record Behind (part : Part) (k : Names) (back rest : List PathThree) : Type 0 where
   later : list_all (is_before k) (keys rest) ≡ true
   sorted : rises (keys rest) ≡ true
   here : (atom : Atom) → combined part (finds k back) (Some atom) ≡ Some (with_part part (held_at k back) atom)
@@ -165,7 +165,7 @@ was_false : (b : Bool) → not b ≡ true → b ≡ false
 was_false true h = absurd (cc)
 was_false false h = refl
 
-behind : (part : Part) (k : Names) (back : List PathRow) → stops k back ≡ true → rises (keys back) ≡ true → Behind part k back (drop (met_len k back) back)
+behind : (part : Part) (k : Names) (back : List PathThree) → stops k back ≡ true → rises (keys back) ≡ true → Behind part k back (drop (met_len k back) back)
 behind part k [] stop sorted = record { later = refl; sorted = refl; here = λ atom. refl; others = λ q e. refl }
 behind part k (row ∷ rows) stop sorted = by (eq_by_cmp path_cmp row.0 k) refl
   where
@@ -193,11 +193,11 @@ behind part k (row ∷ rows) stop sorted = by (eq_by_cmp path_cmp row.0 k) refl
           others = λ q apart. refl;
         }
 
-all_drop : (f : Names → Bool) (n : ℕ) (xs : List PathRow) → list_all f (keys xs) ≡ true → (list_all f (keys (take n xs)) ≡ true) × (list_all f (keys (drop n xs)) ≡ true)
+all_drop : (f : Names → Bool) (n : ℕ) (xs : List PathThree) → list_all f (keys xs) ≡ true → (list_all f (keys (take n xs)) ≡ true) × (list_all f (keys (drop n xs)) ≡ true)
 all_drop f n xs h = all_front f (take n xs) (drop n xs) (ap (λ l. list_all f (keys l)) (take-append-drop n xs) ∙ h)
 
 -- what is said of all the keys of both is said of those of what they are joined to
-all_joined : (part : Part) (f : Names → Bool) (es : List (Names × Atom)) (rows : List PathRow) → list_all f (keys rows) ≡ true → list_all f (keys es) ≡ true → list_all f (keys (joined part rows es)) ≡ true
+all_joined : (part : Part) (f : Names → Bool) (es : List (Names × Atom)) (rows : List PathThree) → list_all f (keys rows) ≡ true → list_all f (keys es) ≡ true → list_all f (keys (joined part rows es)) ≡ true
 unfolding joined
 all_joined part f [] rows h g = h
 all_joined part f (e ∷ es) rows h g =
@@ -205,17 +205,17 @@ all_joined part f (e ∷ es) rows h g =
     let both = and_parts (f e.0) (list_all f (keys es)) g in
     let parts = all_drop f n rows h in
     let rest = drop (met_len e.0 (drop n rows)) (drop n rows) in
-    ap (list_all f) (map-append (λ (r : PathRow). r.0) (take n rows) ((e.0, with_part part (held_at e.0 (drop n rows)) e.1) ∷ joined part rest es))
+    ap (list_all f) (map-append (λ (r : PathThree). r.0) (take n rows) ((e.0, with_part part (held_at e.0 (drop n rows)) e.1) ∷ joined part rest es))
     ∙ list_all-append f (keys (take n rows)) (e.0 ∷ keys (joined part rest es))
     ∙ and_from (list_all f (keys (take n rows))) _ parts.0
     (and_from (f e.0) _ both.0 (all_joined part f es rest (all_drop f (met_len e.0 (drop n rows)) (drop n rows) parts.1).1 both.1))
 
 -- What the rows are joined to is in order, and holds what each holds.
-record Joins (part : Part) (rows : List PathRow) (es : List (Names × Atom)) : Type 0 where
+record Joins (part : Part) (rows : List PathThree) (es : List (Names × Atom)) : Type 0 where
   sorted : rises (keys (joined part rows es)) ≡ true
   found : (q : Names) → finds q (joined part rows es) ≡ combined part (finds q rows) (finds q es)
 
-found_step : (part : Part) (k q : Names) (atom : Atom) (es : List (Names × Atom)) (rows front back rest more : List PathRow)
+found_step : (part : Part) (k q : Names) (atom : Atom) (es : List (Names × Atom)) (rows front back rest more : List PathThree)
     → Split k rows front back → Behind part k back rest → list_all (is_before k) (keys es) ≡ true → finds q more ≡ combined part (finds q rest) (finds q es)
     → finds q (front ++ (k, with_part part (held_at k back) atom) ∷ more) ≡ combined part (finds q rows) (finds q ((k, atom) ∷ es))
 found_step part k q atom es rows front back rest more s b later e =
@@ -243,7 +243,7 @@ found_step part k q atom es rows front back rest more s b later e =
         ∙ ap (combined part (Some x)) (sym none)
         ∙ sym (λ i. combined part (or_else (f i) (finds q back)) (cond (t i) (Some atom) (finds q es)))
 
-joins : (part : Part) (es : List (Names × Atom)) (rows : List PathRow) → rises (keys rows) ≡ true → rises (keys es) ≡ true → Joins part rows es
+joins : (part : Part) (es : List (Names × Atom)) (rows : List PathThree) → rises (keys rows) ≡ true → rises (keys es) ≡ true → Joins part rows es
 unfolding joined
 joins part [] rows h g = record { sorted = h; found = λ q. combined_none part (finds q rows) }
 joins part (e ∷ es) rows h g =
@@ -289,7 +289,7 @@ paths_rise t = map_rises (trees.from_entries _)
 entries_rise : {X : Type 0} (m : ByPath X) → rises (keys (trees.entries m)) ≡ true
 entries_rise m = map_rises m
 
-in_order : (es : List PathRow) → rises (keys es) ≡ true → T (is_sorted path_cmp es)
+in_order : (es : List PathThree) → rises (keys es) ≡ true → T (is_sorted path_cmp es)
 in_order es h = subst T (sym (keys_rise es ∙ h)) tt
 
 -- three merges give the rows

@@ -15,25 +15,25 @@ use Rattle.mode_rules.specs.Trees.{Trees, holds_folder, is_same_at, paths_of}
 use Rattle.mode_rules.specs.Verdicts.{first_case}
 use Rattle.mode_rules.specs.Plans.{change_by, line_of}
 use Rattle.reconcile.specs.declared.decided.Decided.{Decided}
-use Rattle.reconcile.specs.Rows.{PathRow, row_of, rows_of}
-use Rattle.reconcile.specs.Runs.{listed, is_same_row, is_less_row, row_run_len, row_standing, row_verdict, row_differing, row_conflict_by, decided_of}
-use Rattle.reconcile.proofs.PathRuns.{run_len, standing_in, verdict_in, conflict_by_in}
+use Rattle.reconcile.specs.Rows.{PathThree, row_of, rows_of}
+use Rattle.reconcile.specs.Runs.{listed, is_same_row, is_less_row, row_run_len, row_comparison, row_verdict, row_differing, row_conflict_by, decided_of}
+use Rattle.reconcile.proofs.PathRuns.{run_len, comparison_in, verdict_in, conflict_by_in}
 use Rattle.reconcile.proofs.Steps.{IsWalked, walk_start, walk_turn, walk_end}
 
 -- The walk so far over rows: the rows that are left are those of the paths that are.
-pub record IsWalkedRows (mode : Mode) (t : Trees) (rest : List PathRow) (decided : Decided) : Type 0 where
+pub record IsWalkedRows (mode : Mode) (t : Trees) (rest : List PathThree) (decided : Decided) : Type 0 where
   pub paths : List Names
   pub rows_are : rest ≡ map (row_of t) paths
   pub walked : IsWalked mode t paths decided
 
-pub rows_start : (mode : Mode) (t : Trees) (rest : List PathRow) (decided : Decided) → rest ≡ rows_of t → decided ≡ record { changes = []; agreed = []; conflicts = [] } → IsWalkedRows mode t rest decided
+pub rows_start : (mode : Mode) (t : Trees) (rest : List PathThree) (decided : Decided) → rest ≡ rows_of t → decided ≡ record { changes = []; agreed = []; conflicts = [] } → IsWalkedRows mode t rest decided
 rows_start mode t rest decided whole e = record { paths = paths_of t; rows_are = whole; walked = walk_start mode t (paths_of t) decided refl e }
 
 none_left : (t : Trees) (paths : List Names) → [] ≡ map (row_of t) paths → paths ≡ []
 none_left t [] e = refl
 none_left t (p ∷ paths) e = absurd (cc)
 
-pub rows_end : (mode : Mode) (t : Trees) (rest : List PathRow) (decided : Decided) → IsWalkedRows mode t rest decided → rest ≡ [] → decided ≡ decided_of mode t
+pub rows_end : (mode : Mode) (t : Trees) (rest : List PathThree) (decided : Decided) → IsWalkedRows mode t rest decided → rest ≡ [] → decided ≡ decided_of mode t
 rows_end mode t rest decided w e = walk_end mode t w.paths decided w.walked (none_left t w.paths (sym e ∙ w.rows_are))
 
 prefix_len-map : (t : Trees) (path : Names) (ps : List Names) → prefix_len (λ row. is_under row.0 path) (map (row_of t) ps) ≡ prefix_len (λ p. is_under p path) ps
@@ -43,21 +43,21 @@ prefix_len-map t path (p ∷ ps) = ap (λ n. cond (is_under p path) (1 + n) 0) (
 run_len_is : (t : Trees) (path : Names) (ps : List Names) → row_run_len (row_of t path) (map (row_of t) ps) ≡ run_len t path ps
 run_len_is t path ps = ap (λ n. if holds_folder (trees.get t.alpha path) && holds_folder (trees.get t.beta path) then 0 else n) (prefix_len-map t path ps)
 
-standing_alpha : (t : Trees) (ps : List Names) → row_standing Alpha (map (row_of t) ps) ≡ standing_in t.ancestor t.alpha ps
-standing_alpha t ps = λ i. record { same = list_all-map (is_same_row Alpha) (row_of t) ps i; less = list_all-map (is_less_row Alpha) (row_of t) ps i }
+comparison_alpha : (t : Trees) (ps : List Names) → row_comparison Alpha (map (row_of t) ps) ≡ comparison_in t.ancestor t.alpha ps
+comparison_alpha t ps = λ i. record { same = list_all-map (is_same_row Alpha) (row_of t) ps i; less = list_all-map (is_less_row Alpha) (row_of t) ps i }
 
-standing_beta : (t : Trees) (ps : List Names) → row_standing Beta (map (row_of t) ps) ≡ standing_in t.ancestor t.beta ps
-standing_beta t ps = λ i. record { same = list_all-map (is_same_row Beta) (row_of t) ps i; less = list_all-map (is_less_row Beta) (row_of t) ps i }
+comparison_beta : (t : Trees) (ps : List Names) → row_comparison Beta (map (row_of t) ps) ≡ comparison_in t.ancestor t.beta ps
+comparison_beta t ps = λ i. record { same = list_all-map (is_same_row Beta) (row_of t) ps i; less = list_all-map (is_less_row Beta) (row_of t) ps i }
 
 verdict_is : (mode : Mode) (t : Trees) (ps : List Names) (path : Names) → row_verdict mode (map (row_of t) ps) (row_of t path) ≡ verdict_in mode t ps path
-verdict_is mode t ps path = λ i. first_case mode (trees.get t.alpha path) (trees.get t.beta path) (standing_alpha t ps i) (standing_beta t ps i)
+verdict_is mode t ps path = λ i. first_case mode (trees.get t.alpha path) (trees.get t.beta path) (comparison_alpha t ps i) (comparison_beta t ps i)
 
 differing_alpha : (t : Trees) (ps : List Names) → row_differing Alpha (map (row_of t) ps) ≡ filter (λ p. not (is_same_at t.ancestor t.alpha p)) ps
 differing_alpha t [] = refl
 differing_alpha t (p ∷ ps) = by (not (is_same_at t.ancestor t.alpha p)) (differing_alpha t ps)
   where
     by : (c : Bool) → row_differing Alpha (map (row_of t) ps) ≡ filter (λ p. not (is_same_at t.ancestor t.alpha p)) ps
-        → map (λ (row : PathRow). row.0) (cond c (row_of t p ∷ filter (λ row. not (is_same_row Alpha row)) (map (row_of t) ps)) (filter (λ row. not (is_same_row Alpha row)) (map (row_of t) ps)))
+        → map (λ (row : PathThree). row.0) (cond c (row_of t p ∷ filter (λ row. not (is_same_row Alpha row)) (map (row_of t) ps)) (filter (λ row. not (is_same_row Alpha row)) (map (row_of t) ps)))
         ≡ cond c (p ∷ filter (λ p. not (is_same_at t.ancestor t.alpha p)) ps) (filter (λ p. not (is_same_at t.ancestor t.alpha p)) ps)
     by true e = ap (λ l. p ∷ l) e
     by false e = e
@@ -67,7 +67,7 @@ differing_beta t [] = refl
 differing_beta t (p ∷ ps) = by (not (is_same_at t.ancestor t.beta p)) (differing_beta t ps)
   where
     by : (c : Bool) → row_differing Beta (map (row_of t) ps) ≡ filter (λ p. not (is_same_at t.ancestor t.beta p)) ps
-        → map (λ (row : PathRow). row.0) (cond c (row_of t p ∷ filter (λ row. not (is_same_row Beta row)) (map (row_of t) ps)) (filter (λ row. not (is_same_row Beta row)) (map (row_of t) ps)))
+        → map (λ (row : PathThree). row.0) (cond c (row_of t p ∷ filter (λ row. not (is_same_row Beta row)) (map (row_of t) ps)) (filter (λ row. not (is_same_row Beta row)) (map (row_of t) ps)))
         ≡ cond c (p ∷ filter (λ p. not (is_same_at t.ancestor t.beta p)) ps) (filter (λ p. not (is_same_at t.ancestor t.beta p)) ps)
     by true e = ap (λ l. p ∷ l) e
     by false e = e
@@ -85,7 +85,7 @@ conflict_is t ps path verdicts.BetaEmptied = refl
 conflict_is t ps path verdicts.BetaKeeps = refl
 
 -- a turn of the walk over rows
-pub rows_turn : (mode : Mode) (t : Trees) (row : PathRow) (below rest run behind : List PathRow) (old new : Decided) (n : ℕ) → IsWalkedRows mode t rest old
+pub rows_turn : (mode : Mode) (t : Trees) (row : PathThree) (below rest run behind : List PathThree) (old new : Decided) (n : ℕ) → IsWalkedRows mode t rest old
     → rest ≡ row ∷ below → n ≡ row_run_len row below → run ≡ take (1 + n) rest → behind ≡ drop (1 + n) rest
     → new.changes ≡ old.changes ++ listed (change_by t row.0 (row_verdict mode run row))
     → new.agreed ≡ old.agreed ++ listed (line_of row.0 row.1.ancestor row.1.alpha (row_verdict mode run row))
@@ -113,8 +113,8 @@ rows_turn mode t row below rest run behind old new n w shape len front back chan
           rows_are = back ∙ ap (drop (1 + n)) are ∙ drop-map (row_of t) (1 + n) (p ∷ ps);
           walked = walk_turn mode t p ps (p ∷ ps) (take (1 + n) (p ∷ ps)) (drop (1 + n) (p ∷ ps)) old new n walked refl
               (len ∙ ap₂ row_run_len first others ∙ run_len_is t p ps) refl refl
-              (changes ∙ ap (λ c. old.changes ++ listed c) (ap₂ (change_by t) (ap (λ (r : PathRow). r.0) first) v))
-              (agreed ∙ ap (λ l. old.agreed ++ listed l) (ap₂ (λ (r : PathRow) w. line_of r.0 r.1.ancestor r.1.alpha w) first v))
+              (changes ∙ ap (λ c. old.changes ++ listed c) (ap₂ (change_by t) (ap (λ (r : PathThree). r.0) first) v))
+              (agreed ∙ ap (λ l. old.agreed ++ listed l) (ap₂ (λ (r : PathThree) w. line_of r.0 r.1.ancestor r.1.alpha w) first v))
               (conflicts ∙ ap (λ f. old.conflicts ++ listed f)
               ((λ i. row_conflict_by (taken i) (first i) (v i)) ∙ conflict_is t (take (1 + n) (p ∷ ps)) p (verdict_in mode t (take (1 + n) (p ∷ ps)) p)));
         }

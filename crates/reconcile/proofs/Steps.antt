@@ -6,24 +6,24 @@ use Rattle.std.proofs.lemmas.Bool.{and_parts, and_from, true≢false}
 use Rattle.std.proofs.lemmas.List.{append_assoc, append-nil, take-append-drop}
 use Rattle.std.proofs.lemmas.List.Elements.{filter-append}
 use Rattle.std.proofs.lemmas.List.Folds.{list_all-append}
-use Rattle.sync_path.specs.Path.{is_under}
+use Rattle.sync_path.specs.Path.{is_under, is_below}
 use Rattle.entry_tree.specs.Tree.{Names}
 use Rattle.mode_rules.specs.declared.mode.Mode.{Mode}
 use Rattle.mode_rules.specs.declared.verdict.Verdict.{Verdict}
 use Rattle.mode_rules.specs.declared.verdict.Verdict.TheVariants as verdicts
-use Rattle.mode_rules.specs.Trees.{Trees, is_above, is_in_folders, is_point, paths_at, paths_of}
+use Rattle.mode_rules.specs.Trees.{Trees, is_in_folders, is_point, paths_at, paths_of}
 use Rattle.mode_rules.specs.Verdicts.{verdict}
 use Rattle.mode_rules.specs.Plans.{points_of, change_at, change_by, line_at, conflict_at, conflict_by}
 use Rattle.reconcile.specs.declared.decided.Decided.{Decided}
 use Rattle.reconcile.specs.Runs.{listed, decided_of}
 use Rattle.reconcile.proofs.PathRuns.{run_len, verdict_in, conflict_by_in, line_by}
 use Rattle.mode_rules.proofs.Cases.{folders_agree}
-use Rattle.mode_rules.proofs.Below.{folders}
+use Rattle.mode_rules.proofs.Below.{folders, below_is_under}
 use Rattle.reconcile.proofs.Order.{is_before, rises, map_rises, before_is_not_under, under_itself, under_through, is_false, run_is_under, rest_is_not_under, take_one, drop_one}
 
 -- a path p doesn't keep q from being decided on its own
 abbrev pub lets : Trees → Names → Names → Bool
-lets t p q = not (is_above p q) || folders t p
+lets t p q = not (is_below q p) || folders t p
 
 in_folders : (t : Trees) (ps : List Names) (q : Names) → is_in_folders t.alpha t.beta ps q ≡ list_all (λ p. lets t p q) ps
 unfolding is_in_folders
@@ -46,13 +46,13 @@ not_turned true e = absurd (true≢false (sym e))
 not_turned false e = refl
 
 lets_folder : (t : Trees) (p q : Names) → folders t p ≡ true → lets t p q ≡ true
-lets_folder t p q e = ap (λ b. not (is_above p q) || b) e ∙ or_yes (not (is_above p q))
+lets_folder t p q e = ap (λ b. not (is_below q p) || b) e ∙ or_yes (not (is_below q p))
 
 lets_apart : (t : Trees) (p q : Names) → is_under q p ≡ false → lets t p q ≡ true
-lets_apart t p q e = ap (λ b. not (b && not (is_under p q)) || folders t p) e
+lets_apart t p q e = ap (λ b. not b || folders t p) (below_is_under q p) ∙ ap (λ b. not (b && not (is_under p q)) || folders t p) e
 
 lets_self : (t : Trees) (p : Names) → lets t p p ≡ true
-lets_self t p = ap (λ b. not b || folders t p) (self_above (is_under p p))
+lets_self t p = ap (λ b. not b || folders t p) (below_is_under p p ∙ self_above (is_under p p))
 
 all_behind_let : (t : Trees) (path : Names) (below : List Names) → list_all (is_before path) below ≡ true → list_all (λ p. lets t p path) below ≡ true
 all_behind_let t path [] h = refl
@@ -104,7 +104,7 @@ not_a_point : (t : Trees) (before : List Names) (path : Names) (below : List Nam
     → folders t path ≡ false → (q : Names) → is_before path q ≡ true → is_under q path ≡ true → is_point t q ≡ false
 not_a_point t before path below at plain q later under =
     let v : is_under path q ≡ false = before_is_not_under path q later in
-    let hinders : lets t path q ≡ false = λ i. not (under i && not (v i)) || plain i in
+    let hinders : lets t path q ≡ false = ap (λ b. not b || folders t path) (below_is_under q path) ∙ (λ i. not (under i && not (v i)) || plain i) in
     in_folders t (paths_of t) q
     ∙ ap (list_all (λ p. lets t p q)) (sym at.whole)
     ∙ list_all-append (λ p. lets t p q) before (path ∷ below)

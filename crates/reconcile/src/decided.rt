@@ -1,10 +1,10 @@
-// What is decided so far.
+//! What is decided so far.
 ghost use Rattle.std.specs.Prelude.{◌≡◌, ◌++◌, [], OnOk};
 ghost use Rattle.mode_rules.specs.Plans.{change_by, line_of};
 ghost use Rattle.mode_rules.specs.Sights.{trees_of};
 ghost use Rattle.reconcile.specs.Runs.{listed, row_verdict, row_conflict_by};
 
-use crate::row::Row;
+use crate::row::PathRow;
 use crate::runs::{conflict_by_in, verdict_in};
 use entry_tree::Side;
 use mode_rules::{AncestorLine, Change, Conflict, Mode, Sight, change_by, line_of};
@@ -47,8 +47,8 @@ impl Decided {
         alloc: Global,
         mode: Mode,
         sight: &Sight,
-        run: &[Row],
-        row: &Row,
+        run: &[PathRow],
+        row: &PathRow,
     ) -> Result<(), AllocError>
         ensures changes { OnOk result (self.new.changes ≡ self.old.changes ++ listed (change_by (trees_of sight.now) row.now.0 (row_verdict mode run.now row.now))) }
         ensures agreed { OnOk result (self.new.agreed ≡ self.old.agreed ++ listed (line_of row.now.0 row.now.1.ancestor row.now.1.alpha (row_verdict mode run.now row.now))) }

@@ -1,6 +1,8 @@
-//! What a session decides at each path, in one walk over the paths of its three trees.
+//! What a session decides at each path, in one pass over the paths of its three trees.
 //!
-//! [`reconcile`] gives the plan that `mode_rules::settle` gives, path by path, and looks at no path twice.
+//! [`reconcile`] gives the plan that `mode_rules::settle` gives. It merges the three trees' entries into rows in path order, and cuts the rows into runs: a
+//! row whose path is a folder on both sides is a run by itself, and any other takes along all rows below its path. Each run is one decision, which
+//! goes over its rows a fixed number of times.
 #![tactic(auto)]
 
 mod decided;

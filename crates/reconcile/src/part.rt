@@ -1,4 +1,4 @@
-// Which of three trees.
+//! Which of three trees.
 
 /// Which of the three trees that a decision looks at.
 #[derive(Clone, Copy, Debug, PartialEq, Eq)]

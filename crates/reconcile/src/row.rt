@@ -1,4 +1,4 @@
-// A path with what three trees hold there.
+//! A path with what three trees hold there.
 ghost use Rattle.std.specs.Prelude.{◌≡◌};
 ghost use Rattle.std.specs.Option.{option_copied};
 ghost use Rattle.reconcile.specs.Rows.{nothing, with_part, on_side};
@@ -12,30 +12,30 @@ use sync_path::Path;
 
 /// A path, and what the ancestor, alpha and beta hold there, all lent by the trees. Contracts see the path and the three atoms.
 #[derive(Drop)]
-pub(crate) struct Row<'a> {
+pub(crate) struct PathRow<'a> {
     path: &'a Path,
     ancestor: Option<&'a Atom>,
     alpha: Option<&'a Atom>,
     beta: Option<&'a Atom>,
 }
 
-impl<'a> Model for Row<'a> {
+impl<'a> Model for PathRow<'a> {
     ghost use Rattle.std.specs.Option.{option_copied};
-    ghost use Rattle.reconcile.specs.Rows.{PathRow, row_code};
+    ghost use Rattle.reconcile.specs.Rows.{PathThree, row_code};
 
-    ghost Value = { PathRow };
+    ghost Value = { PathThree };
 
     ghost coded = { row_code };
 
     ghost view = { λ row. (row.path.now, record { ancestor = option_copied row.ancestor; alpha = option_copied row.alpha; beta = option_copied row.beta }) };
 }
 
-impl<'a> Row<'a> {
+impl<'a> PathRow<'a> {
     /// A path at which nothing is known to stand. It takes no memory.
-    pub(crate) fn new(path: &'a Path) -> Row<'a>
+    pub(crate) fn new(path: &'a Path) -> PathRow<'a>
         ensures { result ≡ (path.now, nothing) }
     {
-        Row {
+        PathRow {
             path,
             ancestor: None,
             alpha: None,
@@ -44,10 +44,10 @@ impl<'a> Row<'a> {
     }
 
     /// The same path and atoms. It takes no memory.
-    pub(crate) fn copied(&self) -> Row<'a>
+    pub(crate) fn copied(&self) -> PathRow<'a>
         ensures { result ≡ self.now }
     {
-        Row {
+        PathRow {
             path: self.path,
             ancestor: self.ancestor,
             alpha: self.alpha,
@@ -56,10 +56,10 @@ impl<'a> Row<'a> {
     }
 
     /// The same atoms at another path. It takes no memory.
-    pub(crate) fn moved_to(&self, path: &'a Path) -> Row<'a>
+    pub(crate) fn moved_to(&self, path: &'a Path) -> PathRow<'a>
         ensures { result ≡ (path.now, self.now.1) }
     {
-        Row {
+        PathRow {
             path,
             ancestor: self.ancestor,
             alpha: self.alpha,
@@ -68,23 +68,23 @@ impl<'a> Row<'a> {
     }
 
     /// The same, with what one of the trees holds. It takes no memory.
-    pub(crate) fn with(&self, part: Part, atom: &'a Atom) -> Row<'a>
+    pub(crate) fn with(&self, part: Part, atom: &'a Atom) -> PathRow<'a>
         ensures { result ≡ (self.now.0, with_part part self.now.1 atom.now) }
     {
         match part {
-            Part::Ancestor => Row {
+            Part::Ancestor => PathRow {
                 path: self.path,
                 ancestor: Some(atom),
                 alpha: self.alpha,
                 beta: self.beta,
             },
-            Part::Alpha => Row {
+            Part::Alpha => PathRow {
                 path: self.path,
                 ancestor: self.ancestor,
                 alpha: Some(atom),
                 beta: self.beta,
             },
-            Part::Beta => Row {
+            Part::Beta => PathRow {
                 path: self.path,
                 ancestor: self.ancestor,
                 alpha: self.alpha,

@@ -1,48 +1,34 @@
-// The rows of three trees, by a merge of their walks.
+//! The rows of three trees, by a merge of their walks.
 ghost use Rattle.std.specs.Prelude.{◌≡◌, ◌≤◌, ◌+◌, [], ◌∷◌, ◌++◌, length, take, drop, IfOk, OnOk};
 ghost use Rattle.std.specs.FinMap as trees;
-ghost use Rattle.std.specs.Ordering.{is_lt, eq_by_cmp};
-ghost use Rattle.sync_path.specs.Path.{path_cmp};
-ghost use Rattle.reconcile.specs.Rows.{rows_of, front_len, held_at, met_len, with_part, joined};
+ghost use Rattle.reconcile.specs.Rows.{rows_of, front_len, held_at, is_met, met_len, with_part, joined};
 
 use crate::part::Part;
-use crate::row::Row;
+use crate::row::PathRow;
 use entry_tree::{Atom, Tree};
 use std::alloc::{AllocError, Global};
+use std::cmp::Ordering;
 use sync_path::Path;
 
-// Whether a row stands before the path.
-fn is_before(row: &Row, path: &Path) -> bool
-    ensures { result ≡ is_lt (path_cmp row.now.0 path.now) }
-{
-    row.path().cmp(path).is_lt()
-}
-
-// Whether a row is that of the path.
-fn is_at(row: &Row, path: &Path) -> bool
-    ensures { result ≡ eq_by_cmp path_cmp row.now.0 path.now }
-{
-    row.path().cmp(path).is_eq()
-}
-
-// How many of these rows, from the first on, stand before the path.
-fn front_len(rows: &[Row], path: &Path) -> usize
-    ensures len { result ≡ front_len path.now rows.now }
-    ensures within { result ≤ length rows.now }
+// How many of these rows, from the first on, stand before the path, and whether the next one is the path's.
+fn front_of(rows: &[PathRow], path: &Path) -> (usize, bool)
+    ensures len { result.0 ≡ front_len path.now rows.now }
+    ensures within { result.0 ≤ length rows.now }
+    ensures met { result.1 ≡ is_met path.now (drop (front_len path.now rows.now) rows.now) }
 {
     let mut count = 0;
     'rows: for row in rows {
-        if is_before(row, path) {
-            count += 1;
-        } else {
-            return count;
+        match row.path().compare(path) {
+            Ordering::Less => count += 1,
+            Ordering::Equal => return (count, true),
+            Ordering::Greater => return (count, false),
         }
     }
-    count
+    (count, false)
 }
 
 // Adds copies of these rows.
-fn push_all<'a>(all: &mut Vec<Row<'a>>, rows: &[Row<'a>]) -> Result<(), AllocError>
+fn push_all<'a>(all: &mut Vec<PathRow<'a>>, rows: &[PathRow<'a>]) -> Result<(), AllocError>
     ensures { OnOk result (all.new.items ≡ all.old.items ++ rows.now) }
 {
     'rows: for row in rows {
@@ -54,10 +40,10 @@ fn push_all<'a>(all: &mut Vec<Row<'a>>, rows: &[Row<'a>]) -> Result<(), AllocErr
 // The rows with what one more tree holds: one pass over both, which are in path order.
 fn joined<'a>(
     alloc: Global,
-    rows: &[Row<'a>],
+    rows: &[PathRow<'a>],
     part: Part,
     tree: &'a Tree,
-) -> Result<Vec<Row<'a>>, AllocError>
+) -> Result<Vec<PathRow<'a>>, AllocError>
     ensures { IfOk result (λ all. all.items ≡ joined part rows.now (trees.entries tree.now)) }
 {
     let mut all = Vec::new(alloc);
@@ -70,31 +56,21 @@ fn joined<'a>(
     Ok(all)
 }
 
-// What the first of these rows holds, at the path, if it is the path's row; else a row at which nothing stands.
-fn held_at<'a>(rows: &[Row<'a>], path: &'a Path) -> Row<'a>
+// The path's row, if the first of these rows is that; else a row at which nothing stands.
+fn held_at<'a>(met: bool, rows: &[PathRow<'a>], path: &'a Path) -> PathRow<'a>
+    requires { met ≡ is_met path.now rows.now }
     ensures { result ≡ (path.now, held_at path.now rows.now) }
 {
     match rows.first() {
-        Some(row) if is_at(row, path) => row.moved_to(path),
-        _ => Row::new(path),
+        Some(row) if met => row.moved_to(path),
+        _ => PathRow::new(path),
     }
 }
 
-// Whether the first of these rows is the path's, as a number.
-fn met_len(rows: &[Row], path: &Path) -> usize
-    ensures len { result ≡ met_len path.now rows.now }
-    ensures within { result ≤ length rows.now }
-{
-    match rows.first() {
-        Some(row) if is_at(row, path) => 1,
-        _ => 0,
-    }
-}
-
-// Adds the rows from the place on that stand before the path, and the path's; the place behind them.
+// Copies the rows from `at` on that stand before the path, adds the path's row with the atom, and gives the place behind them.
 fn push_entry<'a>(
-    all: &mut Vec<Row<'a>>,
-    rows: &[Row<'a>],
+    all: &mut Vec<PathRow<'a>>,
+    rows: &[PathRow<'a>],
     at: usize,
     part: Part,
     path: &'a Path,
@@ -106,11 +82,11 @@ fn push_entry<'a>(
     ensures within { IfOk result (λ next. next ≤ length rows.now) }
 {
     let (_, rest) = rows.split_at(at);
-    let count = front_len(rest, path);
+    let (count, met) = front_of(rest, path);
     let (front, back) = rest.split_at(count);
     push_all(all, front)?;
-    all.push(held_at(back, path).with(part, atom))?;
-    Ok(at + count + met_len(back, path))
+    all.push(held_at(met, back, path).with(part, atom))?;
+    Ok(at + count + usize::from(met))
 }
 
 /// The rows of three trees: each path at which one of them holds something, in path order, with what each holds there. No path is copied.
@@ -121,7 +97,7 @@ pub(crate) fn rows_of<'a>(
     ancestor: &'a Tree,
     alpha: &'a Tree,
     beta: &'a Tree,
-) -> Result<Vec<Row<'a>>, AllocError>
+) -> Result<Vec<PathRow<'a>>, AllocError>
     ensures { IfOk result (λ rows. rows.items ≡ rows_of (record { ancestor = ancestor.now; alpha = alpha.now; beta = beta.now })) }
 {
     let none = Vec::new(alloc);

@@ -1,4 +1,4 @@
-// One walk over the paths of three trees.
+//! The plan of three trees.
 ghost use Rattle.std.specs.Prelude.{◌≡◌, IfOk};
 ghost use Rattle.mode_rules.specs.Plans.{plan_of};
 ghost use Rattle.mode_rules.specs.Sights.{trees_of};
@@ -6,7 +6,7 @@ ghost use Rattle.reconcile.specs.Rows.{rows_of};
 ghost use Rattle.reconcile.specs.Runs.{decided_of};
 
 use crate::decided::Decided;
-use crate::row::Row;
+use crate::row::PathRow;
 use crate::rows::rows_of;
 use crate::runs::run_len;
 use entry_tree::Tree;
@@ -15,9 +15,8 @@ use std::alloc::{AllocError, Global};
 
 /// What a cycle is to do, by the ancestor and by what was seen of both sides: the plan that `mode_rules::settle` gives.
 ///
-/// It takes memory for what the plan lists, and for references to each path of the three trees and what they hold there. It goes over the
-/// paths once, in path order, and looks at each in one decision only. Cost for n paths in the three trees together: O(n · depth), and
-/// for each change O(log n · depth) and what it lists.
+/// It takes memory for what the plan lists, and for a row of references for each path of the three trees. It compares O(n) pairs of paths for n
+/// entries in the three trees together, and O(log n) more for each change; beside that its cost is the length of what the plan lists.
 pub fn reconcile(
     alloc: Global,
     mode: Mode,
@@ -37,7 +36,7 @@ pub fn reconcile(
 }
 
 // The plan of what is seen.
-fn plan_of(alloc: Global, mode: Mode, sight: &Sight, rows: &[Row]) -> Result<Plan, AllocError>
+fn plan_of(alloc: Global, mode: Mode, sight: &Sight, rows: &[PathRow]) -> Result<Plan, AllocError>
     requires { rows.now ≡ rows_of (trees_of sight.now) }
     ensures { IfOk result (λ plan. plan ≡ plan_of mode (trees_of sight.now)) }
 {
@@ -55,8 +54,8 @@ fn plan_of(alloc: Global, mode: Mode, sight: &Sight, rows: &[Row]) -> Result<Pla
     })
 }
 
-// What is decided at each path, in path order. Where both sides hold a folder, what lies below is decided path by path; else it is decided with the path.
-fn walk(alloc: Global, mode: Mode, sight: &Sight, rows: &[Row]) -> Result<Decided, AllocError>
+// What is decided at each point, in path order. Where both sides hold a folder, the paths below are decided one by one; else they are decided with the path.
+fn walk(alloc: Global, mode: Mode, sight: &Sight, rows: &[PathRow]) -> Result<Decided, AllocError>
     requires { rows.now ≡ rows_of (trees_of sight.now) }
     ensures { IfOk result (λ decided. decided ≡ decided_of mode (trees_of sight.now)) }
 {

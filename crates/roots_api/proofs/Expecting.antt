@@ -1,29 +1,36 @@
--- What is so where an operation is done, and that each is answered in its row.
-use Rattle.std.proofs.Common.{◌≡◌, ℕ, Bool, true, false, cond, ◌&&◌, List, refl, sym, ap, Option, Some, None, bytes_eq}
+-- What is so where an operation is done.
+use Rattle.std.proofs.Common.{◌≡◌, ℕ, Bool, true, false, cond, ◌&&◌, List, refl, sym, ap, Option, Some, None}
 use Rattle.std.specs.FinMap as map
-use Rattle.std.specs.Prelude.{is_some, length, nat_lt}
+use Rattle.std.specs.Prelude.{is_some, ◌==◌}
 use Rattle.std.specs.Option.{option_map_or}
 use Rattle.std.proofs.lemmas.Bool.{eqb-true}
-use Rattle.sha2.specs.Sha256.{sha256}
+use Rattle.entry_tree.specs.Atom.{same_bit}
 use Rattle.entry_tree.specs.Entry.{is_dir}
-use Rattle.entry_tree.specs.Tree.{Names, ByPath, holds_folder, has_below}
+use Rattle.entry_tree.specs.Tree.{Names, ByPath, has_below}
 use Rattle.entry_tree.specs.declared.entry.Entry.{Entry}
 use Rattle.entry_tree.specs.declared.entry.Entry.TheVariants.{Dir, File, Link, Other}
 use Rattle.entry_tree.specs.declared.entry.Stamp.{Stamp}
-use Rattle.entry_tree.proofs.Paths.{name_is}
-use Rattle.roots_api.specs.Answers.{is_done, is_dropped, in_row}
+use Rattle.entry_tree.proofs.Paths.{name_is, both_true}
+use Rattle.roots_api.specs.Answers.{is_done, is_dropped}
 use Rattle.roots_api.specs.Laws.{MayPlace, MayMake, MayRemove}
 use Rattle.roots_api.specs.States.{RootState, staged_by, kept_by, content_of, next_stamp, same_entry, is_expected, missing_parent}
 use Rattle.roots_api.specs.Steps.{answer_of, is_changing, after, in_folder, where_expected, keep_answer}
 use Rattle.roots_api.specs.declared.answer.Answer.{Answer}
 use Rattle.roots_api.specs.declared.answer.Answer.TheVariants.{Done, Differs, NoParent, NotStaged, NotEmpty}
-use Rattle.roots_api.specs.declared.limits.TheConstants.{MAX_FETCH}
 use Rattle.roots_api.specs.declared.op.Op.{Op}
-use Rattle.roots_api.specs.declared.op.Op.TheVariants.{List as OpList, Fetch, StageClear, StageOpen, StageAppend, StageKeep, Place, MakeDir, MakeLink, Remove}
+use Rattle.roots_api.specs.declared.op.Op.TheVariants.{List as OpList, Fetch, StageClear, StageOpen, StageAppend, StageKeep, Place, MakeDir, MakeLink, Remove, SetExec}
+
+bit_is : (x y : Bool) → same_bit x y ≡ true → x ≡ y
+bit_is true true h = refl
+bit_is false false h = refl
+bit_is true false h = absurd (cc)
+bit_is false true h = absurd (cc)
 
 same_is : (a b : Entry) → same_entry a b ≡ true → a ≡ b
 same_is Dir Dir h = refl
-same_is (File a) (File b) h = ap (λ n. File (record { 0 = n })) (eqb-true a.0 b.0 h)
+same_is (File a x) (File b y) h =
+    let both = both_true (a.0 == b.0) (same_bit x y) h in
+    λ i. File (record { 0 = eqb-true a.0 b.0 both.0 i }) (bit_is x y both.1 i)
 same_is (Link a) (Link b) h = ap Link (name_is a b h)
 same_is Other Other h = refl
 same_is a b h = absurd (cc)
@@ -60,10 +67,10 @@ done_stamp : {B : Type 0} → Answer B → Option Stamp
 done_stamp (Done stamp) = stamp
 done_stamp answer = None
 
-pub may_place : (s : RootState) (id : ℕ) (path : Names) (digest : List ℕ) (expected : Option Entry) (stamp : Option Stamp)
-    → answer_of s id (Place path digest expected) ≡ Done stamp → MayPlace s id path digest expected × (stamp ≡ Some (next_stamp s))
+pub may_place : (s : RootState) (id : ℕ) (path : Names) (digest : List ℕ) (exec : Bool) (expected : Option Entry) (stamp : Option Stamp)
+    → answer_of s id (Place path digest exec expected) ≡ Done stamp → MayPlace s id path digest expected × (stamp ≡ Some (next_stamp s))
 unfolding done_stamp
-may_place s id path digest expected stamp h =
+may_place s id path digest exec expected stamp h =
     let kept = is_some (kept_by s id digest) in
     let answer : Answer (List ℕ) = cond kept (Done (Some (next_stamp s))) NotStaged in
     let folder = folder_done s.tree path stamp (where_expected s.tree path expected answer) h in
@@ -85,6 +92,10 @@ pub may_remove : (s : RootState) (id : ℕ) (path : Names) (expected : Entry) (s
 may_remove s id path expected stamp h =
     let there = where_done s.tree path stamp (Some expected) (cond (is_dir expected && has_below s.tree path) NotEmpty (Done None)) h in
     record { there = there.0; empty = empty_done (is_dir expected) (has_below s.tree path) stamp there.1 }
+
+pub may_set_exec : (s : RootState) (id : ℕ) (path : Names) (expected : Entry) (on : Bool) (stamp : Option Stamp)
+    → answer_of s id (SetExec path expected on) ≡ Done stamp → map.get s.tree path ≡ Some expected
+may_set_exec s id path expected on stamp h = (where_done s.tree path stamp (Some expected) (Done None) h).0
 
 -- an answer that isn't done leaves tree and ledger
 pub undone : (s : RootState) (id : ℕ) (op : Op) (answer : Answer (List ℕ)) → is_done answer ≡ false
@@ -108,7 +119,7 @@ leaves s id op answer tree ledger =
       | false ↦ elim (is_dropped answer) as (λ d. P (cond d staged s)) [ true ↦ (refl, refl) | false ↦ (refl, refl) ]
     ]
 
--- so do all but the four that change a tree
+-- so do all but the five that change a tree
 pub others_leave : (s : RootState) (id : ℕ) (op : Op) (answer : Answer (List ℕ)) → is_changing op ≡ false
     → ((after s id op answer).tree ≡ s.tree) × ((after s id op answer).ledger ≡ s.ledger)
 others_leave s id (OpList path) answer h = leaves s id (OpList path) answer refl refl
@@ -117,43 +128,8 @@ others_leave s id StageClear answer h = leaves s id StageClear answer refl refl
 others_leave s id StageOpen answer h = leaves s id StageOpen answer refl refl
 others_leave s id (StageAppend bytes) answer h = leaves s id (StageAppend bytes) answer refl refl
 others_leave s id (StageKeep digest) answer h = leaves s id (StageKeep digest) answer refl refl
-others_leave s id (Place path digest expected) answer h = absurd (cc)
+others_leave s id (Place path digest exec expected) answer h = absurd (cc)
 others_leave s id (MakeDir path) answer h = absurd (cc)
 others_leave s id (MakeLink path text expected) answer h = absurd (cc)
 others_leave s id (Remove path expected) answer h = absurd (cc)
-
-in_folder_row : (op : Op) (tree : ByPath Entry) (path : Names) (answer : Answer (List ℕ))
-    → ((found : Option Entry) → let a : Answer (List ℕ) = NoParent found in in_row op a ≡ true) → in_row op answer ≡ true → in_row op (in_folder tree path answer) ≡ true
-in_folder_row op tree path answer other fits =
-    elim (missing_parent tree path) as (λ m. in_row op (option_map_or (λ missing. NoParent missing.1) m answer) ≡ true) [ None ↦ fits | Some m ↦ other m.1 ]
-
-where_row : (op : Op) (tree : ByPath Entry) (path : Names) (expected : Option Entry) (answer : Answer (List ℕ))
-    → ((found : Option Entry) → let a : Answer (List ℕ) = Differs found in in_row op a ≡ true) → in_row op answer ≡ true → in_row op (where_expected tree path expected answer) ≡ true
-where_row op tree path expected answer other fits =
-    elim (is_expected (map.get tree path) expected) as (λ b. in_row op (cond b answer (Differs (map.get tree path))) ≡ true) [ true ↦ fits | false ↦ other (map.get tree path) ]
-
-cond_row : (op : Op) (b : Bool) (x y : Answer (List ℕ)) → in_row op x ≡ true → in_row op y ≡ true → in_row op (cond b x y) ≡ true
-cond_row op true x y p q = p
-cond_row op false x y p q = q
-
-pub answers_in_row : (s : RootState) (id : ℕ) (op : Op) → in_row op (answer_of s id op) ≡ true
-answers_in_row s id (OpList path) = cond_row (OpList path) (holds_folder is_dir (map.get s.tree path)) _ _ refl refl
-answers_in_row s id (Fetch path stamp offset) =
-    cond_row (Fetch path stamp offset) (is_expected (map.get s.tree path) (Some (File stamp))) _ _
-    (cond_row (Fetch path stamp offset) (nat_lt MAX_FETCH (length (content_of s.ledger stamp))) _ _ refl refl) refl
-answers_in_row s id StageClear = refl
-answers_in_row s id StageOpen = refl
-answers_in_row s id (StageAppend bytes) = cond_row (StageAppend bytes) (is_some (staged_by s id).begun) _ _ refl refl
-answers_in_row s id (StageKeep digest) =
-    elim ((staged_by s id).begun) as (λ o. in_row (StageKeep digest) (keep_answer digest o) ≡ true) [
-      | None ↦ refl
-      | Some bytes ↦ cond_row (StageKeep digest) (bytes_eq (sha256 bytes) digest) _ _ refl refl
-    ]
-answers_in_row s id (Place path digest expected) =
-    in_folder_row (Place path digest expected) s.tree path _ (λ f. refl)
-    (where_row (Place path digest expected) s.tree path expected _ (λ f. refl) (cond_row (Place path digest expected) (is_some (kept_by s id digest)) _ _ refl refl))
-answers_in_row s id (MakeDir path) = in_folder_row (MakeDir path) s.tree path _ (λ f. refl) (where_row (MakeDir path) s.tree path None _ (λ f. refl) refl)
-answers_in_row s id (MakeLink path text expected) =
-    in_folder_row (MakeLink path text expected) s.tree path _ (λ f. refl) (where_row (MakeLink path text expected) s.tree path expected _ (λ f. refl) refl)
-answers_in_row s id (Remove path expected) =
-    where_row (Remove path expected) s.tree path (Some expected) _ (λ f. refl) (cond_row (Remove path expected) (is_dir expected && has_below s.tree path) _ _ refl refl)
+others_leave s id (SetExec path expected on) answer h = absurd (cc)

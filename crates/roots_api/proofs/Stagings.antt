@@ -19,12 +19,12 @@ use Rattle.roots_api.specs.Steps.{answer_of, keep_answer, begin_file, append_byt
 use Rattle.roots_api.specs.declared.answer.Answer.{Answer}
 use Rattle.roots_api.specs.declared.answer.Answer.TheVariants.{Failed, Kept, DigestDiffers}
 use Rattle.roots_api.specs.declared.edit.Edit.{Edit}
-use Rattle.roots_api.specs.declared.edit.Edit.TheVariants.{Put, Link, Dir, Other, Del}
+use Rattle.roots_api.specs.declared.edit.Edit.TheVariants.{Put, Link, Dir, Other, SetExec, Del}
 use Rattle.roots_api.specs.declared.event.Deed.{Deed}
 use Rattle.roots_api.specs.declared.event.Deed.TheVariants.{Asked, Edited}
 use Rattle.roots_api.specs.declared.event.Span.{Span}
 use Rattle.roots_api.specs.declared.op.Op.{Op}
-use Rattle.roots_api.specs.declared.op.Op.TheVariants.{List as OpList, Fetch, StageClear, StageOpen, StageAppend, StageKeep, Place, MakeDir, MakeLink, Remove}
+use Rattle.roots_api.specs.declared.op.Op.TheVariants.{List as OpList, Fetch, StageClear, StageOpen, StageAppend, StageKeep, Place, MakeDir, MakeLink, Remove, SetExec}
 use Rattle.roots_api.specs.declared.who.Who.{Who}
 use Rattle.roots_api.specs.declared.who.Who.TheVariants.{Editor, Session}
 
@@ -65,10 +65,11 @@ module _ (s : RootState) (id : ℕ) where
   done_other other StageOpen h = stage_other (begin_file (staged_by s id)) other h
   done_other other (StageAppend bytes) h = stage_other (append_bytes bytes (staged_by s id)) other h
   done_other other (StageKeep digest) h = stage_other (keep_file digest (staged_by s id)) other h
-  done_other other (Place path digest expected) h = refl
+  done_other other (Place path digest exec expected) h = refl
   done_other other (MakeDir path) h = refl
   done_other other (MakeLink path text expected) h = refl
   done_other other (Remove path expected) h = refl
+  done_other other (SetExec path expected on) h = refl
 
   pub after_other : {B : Type 0} (other : ℕ) (op : Op) (answer : Answer B) → id ≢ other → staged_by (after s id op answer) other ≡ staged_by s other
   after_other other op answer h =
@@ -85,6 +86,7 @@ edits_leave s (Put path bytes) = refl
 edits_leave s (Link path text) = refl
 edits_leave s (Dir path) = refl
 edits_leave s (Other path) = refl
+edits_leave s (SetExec path on) = refl
 edits_leave s (Del path) = refl
 
 -- bytes are kept under their own digest alone
@@ -138,10 +140,11 @@ module _ (s : RootState) (id : ℕ) (all : AllAreTrue s.staging) where
   done_true StageOpen answer l h = stage_true (begin_file (staged_by s id)) (all id)
   done_true (StageAppend bytes) answer l h = stage_true (append_bytes bytes (staged_by s id)) (all id)
   done_true (StageKeep digest) answer l h = stage_true (keep_file digest (staged_by s id)) (keep_true (staged_by s id) digest (all id) (keep_legal digest answer l h))
-  done_true (Place path digest expected) answer l h = all
+  done_true (Place path digest exec expected) answer l h = all
   done_true (MakeDir path) answer l h = all
   done_true (MakeLink path text expected) answer l h = all
   done_true (Remove path expected) answer l h = all
+  done_true (SetExec path expected on) answer l h = all
 
   after_true : (op : Op) (answer : Answer Span) → (answer ≡ Failed) ⊎ (answer ≡ logged op (answer_of s id op)) → AllAreTrue (after s id op answer).staging
   after_true op answer l =
@@ -154,7 +157,7 @@ module _ (s : RootState) (id : ℕ) (all : AllAreTrue s.staging) where
       ] refl
 
 pub deed_true : (s : RootState) (who : Who) (deed : Deed) (answer : Answer Span) → IsLegalDeed s who deed answer → AllAreTrue s.staging → AllAreTrue (after_deed s who deed answer).staging
-deed_true s (Session id run cycle) (Asked op) answer l all = after_true s id all op answer l
+deed_true s (Session id run cycle) (Asked op) answer l all = after_true s id all op answer l.row
 deed_true s Editor (Asked op) answer l all = all
 deed_true s Editor (Edited edit) answer l all = subst AllAreTrue (sym (edits_leave s edit)) all
 deed_true s (Session id run cycle) (Edited edit) answer l all = absurd l

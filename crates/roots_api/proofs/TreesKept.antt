@@ -1,5 +1,5 @@
 -- The tree of a legal log is closed under parents.
-use Rattle.std.proofs.Common.{◌≡◌, ◌⊎◌, inl, inr, ℕ, true, false, cond, not, List, [], ◌∷◌, ◌++◌, refl, sym, ap, ◌∙◌, Option, Some, None}
+use Rattle.std.proofs.Common.{◌≡◌, ◌⊎◌, inl, inr, ℕ, Bool, true, false, cond, not, List, [], ◌∷◌, ◌++◌, refl, sym, ap, ◌∙◌, Option, Some, None}
 use Rattle.std.specs.FinMap as map
 use Rattle.std.specs.Prelude.{is_some}
 use Rattle.std.specs.Option.{option_map, option_map_or, option_and_then}
@@ -12,22 +12,22 @@ use Rattle.entry_tree.specs.declared.entry.Entry.{Entry}
 use Rattle.entry_tree.specs.declared.entry.Entry.TheVariants.{Dir as DirEntry, File as FileEntry, Link as LinkEntry, Other as OtherEntry}
 use Rattle.entry_tree.specs.declared.tree_error.TreeError.{TreeError}
 use Rattle.entry_tree.specs.declared.tree_error.TreeError.TheVariants.{NotDir}
-use Rattle.entry_tree.proofs.Trees.{closed_set, closed_retain, not_under_up, tie_is}
+use Rattle.entry_tree.proofs.Trees.{closed_set, closed_retain, not_under_up, stands_allowed, tie_is}
 use Rattle.roots_api.specs.Answers.{is_done, is_dropped}
 use Rattle.roots_api.specs.Edits.{edited, refused_at, first_of}
 use Rattle.roots_api.specs.Logs.{after_deed, after_event, IsLegalDeed, IsLegalEvent, logged, spanned, offset_of}
-use Rattle.roots_api.specs.States.{RootState, new_root, staged_by, kept_by, with_staged, next_stamp, missing_parent}
+use Rattle.roots_api.specs.States.{RootState, new_root, staged_by, kept_by, with_staged, next_stamp, missing_parent, with_bit}
 use Rattle.roots_api.specs.Steps.{done, after, answer_of, drop_file, in_folder, where_expected}
 use Rattle.roots_api.specs.declared.answer.Answer.{Answer}
-use Rattle.roots_api.specs.declared.answer.Answer.TheVariants.{Listed, Held, Piece, Changed, TooLarge, Cleared, Opened, Kept, NotStaged, DigestDiffers, Done, NoParent, Differs, NoLink, NotEmpty, Full, Failed}
+use Rattle.roots_api.specs.declared.answer.Answer.TheVariants.{Listed, Held, Piece, Changed, TooLarge, Cleared, Opened, Kept, NotStaged, DigestDiffers, Done, NoParent, Differs, NoLink, NoExec, NotEmpty, Full, Failed}
 use Rattle.roots_api.specs.declared.edit.Edit.{Edit}
-use Rattle.roots_api.specs.declared.edit.Edit.TheVariants.{Put, Link, Dir, Other, Del}
+use Rattle.roots_api.specs.declared.edit.Edit.TheVariants.{Put, Link, Dir, Other, SetExec, Del}
 use Rattle.roots_api.specs.declared.event.Deed.{Deed}
 use Rattle.roots_api.specs.declared.event.Deed.TheVariants.{Asked, Edited}
 use Rattle.roots_api.specs.declared.event.Event.{Event}
 use Rattle.roots_api.specs.declared.event.Span.{Span}
 use Rattle.roots_api.specs.declared.op.Op.{Op}
-use Rattle.roots_api.specs.declared.op.Op.TheVariants.{List as OpList, Fetch, StageClear, StageOpen, StageAppend, StageKeep, Place, MakeDir, MakeLink, Remove}
+use Rattle.roots_api.specs.declared.op.Op.TheVariants.{List as OpList, Fetch, StageClear, StageOpen, StageAppend, StageKeep, Place, MakeDir, MakeLink, Remove, SetExec}
 use Rattle.roots_api.specs.declared.who.Who.{Who}
 use Rattle.roots_api.specs.declared.who.Who.TheVariants.{Editor, Session}
 
@@ -47,7 +47,7 @@ allowed_at tree (Some p) h =
     from (map.get tree p) h
 
 -- where no parent is missing, a tree takes an entry
-allowed : (tree : ByPath Entry) (path : Names) → missing_parent tree path ≡ None → refusal is_dir (at_parent tree path) ≡ None
+pub allowed : (tree : ByPath Entry) (path : Names) → missing_parent tree path ≡ None → refusal is_dir (at_parent tree path) ≡ None
 allowed tree path h = allowed_at tree (parent_of path) h
 
 set_shut : (tree : ByPath Entry) (path : Names) (x : Entry) → IsShut tree → missing_parent tree path ≡ None → IsShut (set_at is_dir tree path x)
@@ -55,6 +55,10 @@ set_shut tree path x closed h = closed_set is_dir tree path x closed (allowed tr
 
 without_shut : (tree : ByPath Entry) (path : Names) → IsShut tree → IsShut (without_under tree path)
 without_shut tree path closed = closed_retain is_dir tree closed (λ q. not (is_under q path)) (λ q n h. not_under_up path q n h)
+
+exec_shut : (tree : ByPath Entry) (path : Names) (on : Bool) → IsShut tree → (o : Option Entry) → map.get tree path ≡ o → IsShut (option_map_or (λ found. set_at is_dir tree path (with_bit on found)) o tree)
+exec_shut tree path on closed None at = closed
+exec_shut tree path on closed (Some found) at = closed_set is_dir tree path (with_bit on found) closed (stands_allowed is_dir tree path closed (ap (λ (o : Option Entry). is_some o) at))
 
 -- what a log keeps of an answer tells as much
 pub done_spanned : (offset : ℕ) (answer : Answer (List ℕ)) → is_done (spanned offset answer) ≡ is_done answer
@@ -72,15 +76,16 @@ done_spanned offset (Done stamp) = refl
 done_spanned offset (NoParent found) = refl
 done_spanned offset (Differs found) = refl
 done_spanned offset NoLink = refl
+done_spanned offset NoExec = refl
 done_spanned offset NotEmpty = refl
 done_spanned offset (Full room) = refl
 done_spanned offset Failed = refl
 
-done_legal : (s : RootState) (id : ℕ) (op : Op) (answer : Answer Span) → (answer ≡ Failed) ⊎ (answer ≡ logged op (answer_of s id op)) → is_done answer ≡ true → is_done (answer_of s id op) ≡ true
+pub done_legal : (s : RootState) (id : ℕ) (op : Op) (answer : Answer Span) → (answer ≡ Failed) ⊎ (answer ≡ logged op (answer_of s id op)) → is_done answer ≡ true → is_done (answer_of s id op) ≡ true
 done_legal s id op answer (inl e) h = absurd (let n : true ≡ false = sym h ∙ ap is_done e in cc)
 done_legal s id op answer (inr e) h = sym (done_spanned (offset_of op) (answer_of s id op)) ∙ sym (ap is_done e) ∙ h
 
-in_folder_done : (tree : ByPath Entry) (path : Names) (answer : Answer (List ℕ)) → is_done (in_folder tree path answer) ≡ true → missing_parent tree path ≡ None
+pub in_folder_done : (tree : ByPath Entry) (path : Names) (answer : Answer (List ℕ)) → is_done (in_folder tree path answer) ≡ true → missing_parent tree path ≡ None
 in_folder_done tree path answer h =
     elim (missing_parent tree path) as (λ m. is_done (option_map_or (λ missing. NoParent missing.1) m answer) ≡ true → m ≡ None) [ None ↦ λ _. refl | Some m ↦ λ g. absurd (cc) ] h
 
@@ -92,12 +97,13 @@ module _ (s : RootState) (id : ℕ) (closed : IsShut s.tree) where
   done_shut StageOpen h = closed
   done_shut (StageAppend bytes) h = closed
   done_shut (StageKeep digest) h = closed
-  done_shut (Place path digest expected) h =
-      set_shut s.tree path (FileEntry (next_stamp s)) closed
+  done_shut (Place path digest exec expected) h =
+      set_shut s.tree path (FileEntry (next_stamp s) exec) closed
       (in_folder_done s.tree path (where_expected s.tree path expected (cond (is_some (kept_by s id digest)) (Done (Some (next_stamp s))) NotStaged)) h)
   done_shut (MakeDir path) h = set_shut s.tree path DirEntry closed (in_folder_done s.tree path (where_expected s.tree path None (Done None)) h)
   done_shut (MakeLink path text expected) h = set_shut s.tree path (LinkEntry text) closed (in_folder_done s.tree path (where_expected s.tree path expected (Done None)) h)
   done_shut (Remove path expected) h = without_shut s.tree path closed
+  done_shut (SetExec path expected on) h = exec_shut s.tree path on closed (map.get s.tree path) refl
 
   after_shut : (op : Op) (answer : Answer Span) → (answer ≡ Failed) ⊎ (answer ≡ logged op (answer_of s id op)) → IsShut (after s id op answer).tree
   after_shut op answer l =
@@ -112,16 +118,17 @@ first_none None b h = refl
 first_none (Some x) b h = absurd (cc)
 
 edited_shut : (s : RootState) (edit : Edit) → IsShut s.tree → refused_at s.tree edit ≡ None → IsShut (edited s edit).tree
-edited_shut s (Put path bytes) closed h = set_shut s.tree path (FileEntry (next_stamp s)) closed (first_none (missing_parent s.tree path) _ h)
+edited_shut s (Put path bytes) closed h = set_shut s.tree path (FileEntry (next_stamp s) false) closed (first_none (missing_parent s.tree path) _ h)
 edited_shut s (Link path text) closed h = set_shut s.tree path (LinkEntry text) closed (first_none (missing_parent s.tree path) _ h)
 edited_shut s (Dir path) closed h = set_shut s.tree path DirEntry closed (first_none (missing_parent s.tree path) _ h)
 edited_shut s (Other path) closed h = set_shut s.tree path OtherEntry closed (first_none (missing_parent s.tree path) _ h)
+edited_shut s (SetExec path on) closed h = exec_shut s.tree path on closed (map.get s.tree path) refl
 edited_shut s (Del path) closed h = without_shut s.tree path closed
 
 deed_shut : (s : RootState) (who : Who) (deed : Deed) (answer : Answer Span) → IsLegalDeed s who deed answer → IsShut s.tree → IsShut (after_deed s who deed answer).tree
-deed_shut s (Session id run cycle) (Asked op) answer l closed = after_shut s id closed op answer l
+deed_shut s (Session id run cycle) (Asked op) answer l closed = after_shut s id closed op answer l.row
 deed_shut s Editor (Asked op) answer l closed = absurd l
-deed_shut s Editor (Edited edit) answer l closed = edited_shut s edit closed l.0
+deed_shut s Editor (Edited edit) answer l closed = edited_shut s edit closed l.allowed
 deed_shut s (Session id run cycle) (Edited edit) answer l closed = absurd l
 
 pub event_shut : (s : RootState) (e : Event) → IsLegalEvent s e → IsShut s.tree → IsShut (after_event s e).tree

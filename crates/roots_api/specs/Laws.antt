@@ -1,13 +1,14 @@
 -- What every state, every step and every log keeps to.
-use Rattle.std.specs.Prelude.{◌≡◌, ◌≢◌, ℕ, ◌<◌, true, false, List, ◌++◌, length, Option, Some, None, is_some}
+use Rattle.std.specs.Prelude.{◌≡◌, ◌≢◌, ℕ, ◌<◌, Bool, true, false, List, ◌++◌, length, Option, Some, None, is_some}
 use Rattle.std.specs.FinMap as map
 use Rattle.sha2.specs.Sha256.{sha256}
+use Rattle.sync_path.specs.Path.{IsPath}
 use Rattle.entry_tree.specs.Entry.{is_dir}
-use Rattle.entry_tree.specs.Tree.{Names, IsClosed, has_below}
+use Rattle.entry_tree.specs.Tree.{Names, ByPath, IsClosed, has_below}
 use Rattle.entry_tree.specs.declared.entry.Entry.{Entry}
 use Rattle.entry_tree.specs.declared.entry.Entry.TheVariants.{File}
 use Rattle.entry_tree.specs.declared.entry.Stamp.{Stamp}
-use Rattle.roots_api.specs.Answers.{is_done, in_row}
+use Rattle.roots_api.specs.Answers.{is_done, IsAnswerTo}
 use Rattle.roots_api.specs.Edits.{edited}
 use Rattle.roots_api.specs.Logs.{IsLegal, state_of}
 use Rattle.roots_api.specs.States.{RootState, nothing_staged, staged_by, kept_by, next_stamp, missing_parent}
@@ -17,7 +18,7 @@ use Rattle.roots_api.specs.declared.answer.Answer.TheVariants.{Done, Failed}
 use Rattle.roots_api.specs.declared.edit.Edit.{Edit}
 use Rattle.roots_api.specs.declared.event.Event.{Event}
 use Rattle.roots_api.specs.declared.op.Op.{Op}
-use Rattle.roots_api.specs.declared.op.Op.TheVariants.{StageClear, Place, MakeDir, MakeLink, Remove}
+use Rattle.roots_api.specs.declared.op.Op.TheVariants.{StageClear, Place, MakeDir, MakeLink, Remove, SetExec}
 
 -- an operation that isn't done leaves the tree and the ledger
 abbrev pub UndoneLeavesTree : Type 0
@@ -25,7 +26,7 @@ UndoneLeavesTree =
     (s : RootState) (id : ℕ) (op : Op) (answer : Answer (List ℕ)) → is_done answer ≡ false
     → ((after s id op answer).tree ≡ s.tree) × ((after s id op answer).ledger ≡ s.ledger)
 
--- one that isn't among the four that change a tree leaves them, whatever it answers
+-- one that isn't among the five that change a tree leaves them, whatever it answers
 abbrev pub OthersLeaveTree : Type 0
 OthersLeaveTree =
     (s : RootState) (id : ℕ) (op : Op) (answer : Answer (List ℕ)) → is_changing op ≡ false
@@ -54,8 +55,8 @@ pub record MayRemove (s : RootState) (path : Names) (expected : Entry) : Type 0 
 
 abbrev pub PlacesWhereExpected : Type 0
 PlacesWhereExpected =
-    (s : RootState) (id : ℕ) (path : Names) (digest : List ℕ) (expected : Option Entry) (stamp : Option Stamp)
-    → answer_of s id (Place path digest expected) ≡ Done stamp → MayPlace s id path digest expected × (stamp ≡ Some (next_stamp s))
+    (s : RootState) (id : ℕ) (path : Names) (digest : List ℕ) (exec : Bool) (expected : Option Entry) (stamp : Option Stamp)
+    → answer_of s id (Place path digest exec expected) ≡ Done stamp → MayPlace s id path digest expected × (stamp ≡ Some (next_stamp s))
 
 abbrev pub MakesDirWhereNothing : Type 0
 MakesDirWhereNothing =
@@ -71,9 +72,14 @@ RemovesWhereExpected =
     (s : RootState) (id : ℕ) (path : Names) (expected : Entry) (stamp : Option Stamp)
     → answer_of s id (Remove path expected) ≡ Done stamp → MayRemove s path expected
 
--- no operation is answered outside its row
+abbrev pub SetsExecWhereExpected : Type 0
+SetsExecWhereExpected =
+    (s : RootState) (id : ℕ) (path : Names) (expected : Entry) (on : Bool) (stamp : Option Stamp)
+    → answer_of s id (SetExec path expected on) ≡ Done stamp → map.get s.tree path ≡ Some expected
+
+-- where the log is legal, no operation is answered outside its row
 abbrev pub AnswersInRow : Type 0
-AnswersInRow = (s : RootState) (id : ℕ) (op : Op) → in_row op (answer_of s id op) ≡ true
+AnswersInRow = (log : List Event) → IsLegal log → (id : ℕ) (op : Op) → IsAnswerTo op (answer_of (state_of log) id op)
 
 -- what a session stages, no other session sees
 abbrev pub StagesApart : Type 0
@@ -97,12 +103,19 @@ LedgerGrows =
 -- each stamp in a tree names a content of the ledger
 abbrev pub StampsName : Type 0
 StampsName =
-    (log : List Event) (path : Names) (stamp : Stamp)
-    → map.get (state_of log).tree path ≡ Some (File stamp) → stamp.0 < length (state_of log).ledger
+    (log : List Event) (path : Names) (stamp : Stamp) (exec : Bool)
+    → map.get (state_of log).tree path ≡ Some (File stamp exec) → stamp.0 < length (state_of log).ledger
 
 -- the tree of a legal log is closed under parents
 abbrev pub TreesAreClosed : Type 0
 TreesAreClosed = (log : List Event) → IsLegal log → IsClosed is_dir (state_of log).tree
+
+-- and it holds something only at paths
+abbrev pub HoldsPaths : ByPath Entry → Type 0
+HoldsPaths tree = (path : Names) → is_some (map.get tree path) ≡ true → IsPath path
+
+abbrev pub TreesHoldPaths : Type 0
+TreesHoldPaths = (log : List Event) → IsLegal log → HoldsPaths (state_of log).tree
 
 -- in a legal log, bytes are kept under their own digest alone
 abbrev pub KeepsByDigest : Type 0

@@ -1,8 +1,10 @@
 pub mod Answers
+pub mod Asked
 pub mod Copying
 pub mod Edits
 pub mod Expected
 pub mod Laws
+pub mod Linked
 pub mod Logs
 pub mod States
 pub mod Steps

@@ -1,11 +1,13 @@
 -- Which logs are legal, and what the state of a root is after a log.
 use Rattle.std.specs.Prelude.{◌≡◌, ℕ, ◌+◌, Bool, true, false, List, [], ◌∷◌, length, sum_by, count_by, None, ⊤, ◌⊎◌}
 use Rattle.roots_api.specs.Answers.{is_failed}
+use Rattle.roots_api.specs.Asked.{IsAsked, IsMade}
 use Rattle.roots_api.specs.Edits.{refused_at, edited}
 use Rattle.roots_api.specs.States.{RootState, new_root}
 use Rattle.roots_api.specs.Steps.{answer_of, after}
 use Rattle.roots_api.specs.declared.answer.Answer.{Answer}
-use Rattle.roots_api.specs.declared.answer.Answer.TheVariants.{Listed, Held, Piece, Changed, TooLarge, Cleared, Opened, Kept, NotStaged, DigestDiffers, Done, NoParent, Differs, NoLink, NotEmpty, Full, Failed}
+use Rattle.roots_api.specs.declared.answer.Answer.TheVariants.{Listed, Held, Piece, Changed, TooLarge, Cleared, Opened, Kept, NotStaged, DigestDiffers, Done, NoParent, Differs, NoLink, NoExec, NotEmpty, Full, Failed}
+use Rattle.roots_api.specs.declared.edit.Edit.{Edit}
 use Rattle.roots_api.specs.declared.event.Deed.{Deed}
 use Rattle.roots_api.specs.declared.event.Deed.TheVariants.{Asked, Edited}
 use Rattle.roots_api.specs.declared.event.Event.{Event}
@@ -36,6 +38,7 @@ spanned offset (Done stamp) = Done stamp
 spanned offset (NoParent found) = NoParent found
 spanned offset (Differs found) = Differs found
 spanned offset NoLink = NoLink
+spanned offset NoExec = NoExec
 spanned offset NotEmpty = NotEmpty
 spanned offset (Full room) = Full room
 spanned offset Failed = Failed
@@ -62,11 +65,21 @@ after_events s (e ∷ es) = after_events (after_event s e) es
 abbrev pub state_of : List Event → RootState
 state_of log = after_events new_root log
 
--- A session's operation is answered by its row on the state before it, or Failed; an editor's change was one that the
--- state before it doesn't refuse.
+-- a session's operation can be asked, and is answered by its row on the state before it, or Failed
+pub record IsLegalCall (s : RootState) (id : ℕ) (op : Op) (answer : Answer Span) : Type 0 where
+  pub asked : IsAsked op
+  pub row : (answer ≡ Failed) ⊎ (answer ≡ logged op (answer_of s id op))
+
+-- an editor's change can be made, and the state before it doesn't refuse it
+pub record IsLegalEdit (s : RootState) (edit : Edit) (answer : Answer Span) : Type 0 where
+  pub made : IsMade edit
+  pub allowed : refused_at s.tree edit ≡ None
+  pub done : answer ≡ Done None
+
+-- what a session or an editor did, with its answer, is legal on the state before it
 abbrev pub IsLegalDeed : RootState → Who → Deed → Answer Span → Type 0
-IsLegalDeed s (Session id run cycle) (Asked op) answer = (answer ≡ Failed) ⊎ (answer ≡ logged op (answer_of s id op))
-IsLegalDeed s Editor (Edited edit) answer = (refused_at s.tree edit ≡ None) × (answer ≡ Done None)
+IsLegalDeed s (Session id run cycle) (Asked op) answer = IsLegalCall s id op answer
+IsLegalDeed s Editor (Edited edit) answer = IsLegalEdit s edit answer
 IsLegalDeed s Editor (Asked op) answer = ⊥
 IsLegalDeed s (Session id run cycle) (Edited edit) answer = ⊥
 

@@ -28,12 +28,6 @@ abbrev pub IsSession : Who → Type 0
 IsSession Editor = ⊥
 IsSession (Session id run cycle) = ⊤
 
--- Where the log before is told, so is the one after, and R relates them. A log that isn't told claims nothing.
-abbrev pub WhereTold : Option (List Event) → Option (List Event) → (List Event → List Event → Type 0) → Type 0
-WhereTold None new R = ⊤
-WhereTold (Some old) None R = ⊥
-WhereTold (Some old) (Some new) R = R old new
-
 -- the event of an operation
 abbrev pub call_event : Who → Op → Answer (List ℕ) → Event
 call_event who op answer = record { who = who; deed = Asked op; answer = logged op answer }

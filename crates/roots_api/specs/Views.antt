@@ -9,10 +9,10 @@ use Rattle.entry_tree.specs.declared.entry.Entry.{Entry}
 use Rattle.entry_tree.specs.declared.entry.Entry.TheVariants.{Dir, File, Link, Other}
 use Rattle.roots_api.specs.States.{RootState, content_of}
 
--- the atom of an entry: a file has the digest of its stamp's content, and what is never tracked is untracked
+-- the atom of an entry: a file has the digest of its stamp's content and its executable bit, and what is never tracked is untracked
 abbrev pub atom_of : List (List ℕ) → Entry → Atom
 atom_of ledger Dir = atom.Dir
-atom_of ledger (File stamp) = atom.File (sha256 (content_of ledger stamp))
+atom_of ledger (File stamp exec) = atom.File (sha256 (content_of ledger stamp)) exec
 atom_of ledger (Link text) = atom.Link text
 atom_of ledger Other = atom.Untracked
 

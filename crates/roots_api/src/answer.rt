@@ -1,9 +1,13 @@
-// What a root answers.
+//! What a root answers.
 ghost use Rattle.std.specs.Prelude.{◌≡◌, IfOk};
+ghost use Rattle.roots_api.specs.Answers.{is_done, is_dropped, is_failed, is_full};
+ghost use Rattle.roots_api.specs.Logs.{rows_in, spanned};
 
 use crate::content::Content;
+use crate::event::Span;
+use crate::found::copy_found;
 use crate::rows::Rows;
-use entry_tree::{Digest, Entry, Node, Stamp};
+use entry_tree::{Digest, Entry, Stamp};
 use std::alloc::{AllocError, Global};
 
 /// How full a root's log is.
@@ -57,6 +61,8 @@ pub enum Answer<B = Content> {
     Differs(Option<Entry>),
     /// The root keeps no links.
     NoLink,
+    /// The root keeps no executable bits, and one was to be set.
+    NoExec,
     /// The folder has names.
     NotEmpty,
     /// There is no room; nothing is done.
@@ -72,12 +78,12 @@ impl Answer {
     {
         match self {
             Answer::Listed(rows) => Ok(Answer::Listed(rows.copy(alloc)?)),
-            Answer::Held(found) => Ok(Answer::Held(copy_found(alloc, found)?)),
+            Answer::Held(found) => Ok(Answer::Held(copy_found(alloc, found.as_ref())?)),
             Answer::Piece { bytes, last } => Ok(Answer::Piece {
                 bytes: bytes.copy(alloc)?,
                 last: *last,
             }),
-            Answer::Changed(found) => Ok(Answer::Changed(copy_found(alloc, found)?)),
+            Answer::Changed(found) => Ok(Answer::Changed(copy_found(alloc, found.as_ref())?)),
             Answer::TooLarge(bytes) => Ok(Answer::TooLarge(*bytes)),
             Answer::Cleared => Ok(Answer::Cleared),
             Answer::Opened => Ok(Answer::Opened),
@@ -88,25 +94,102 @@ impl Answer {
                 got: *got,
             }),
             Answer::Done(stamp) => Ok(Answer::Done(*stamp)),
-            Answer::NoParent(found) => Ok(Answer::NoParent(copy_found(alloc, found)?)),
-            Answer::Differs(found) => Ok(Answer::Differs(copy_found(alloc, found)?)),
+            Answer::NoParent(found) => Ok(Answer::NoParent(copy_found(alloc, found.as_ref())?)),
+            Answer::Differs(found) => Ok(Answer::Differs(copy_found(alloc, found.as_ref())?)),
             Answer::NoLink => Ok(Answer::NoLink),
+            Answer::NoExec => Ok(Answer::NoExec),
             Answer::NotEmpty => Ok(Answer::NotEmpty),
             Answer::Full(room) => Ok(Answer::Full(*room)),
             Answer::Failed => Ok(Answer::Failed),
         }
     }
-}
 
-// What was found, once more.
-fn copy_found(alloc: Global, found: &Option<Entry>) -> Result<Option<Entry>, AllocError>
-    ensures { IfOk result (λ copy. copy ≡ found.now) }
-{
-    match found {
-        None => Ok(None),
-        Some(entry) => match entry.copy(alloc) {
-            Ok(entry) => Ok(Some(entry)),
-            Err(error) => Err(error),
-        },
+    /// The answer with where the bytes of a piece are, in place of the bytes; the piece begins at the offset. Cost: the rows,
+    /// or the length of a link's text.
+    pub fn spanned(&self, alloc: Global, offset: u64) -> Result<Answer<Span>, AllocError>
+        ensures { IfOk result (λ logged. logged ≡ spanned offset self.now) }
+    {
+        match self {
+            Answer::Listed(rows) => Ok(Answer::Listed(rows.copy(alloc)?)),
+            Answer::Held(found) => Ok(Answer::Held(copy_found(alloc, found.as_ref())?)),
+            Answer::Piece { bytes, last } => Ok(Answer::Piece {
+                bytes: Span {
+                    offset,
+                    length: bytes.len() as u64,
+                },
+                last: *last,
+            }),
+            Answer::Changed(found) => Ok(Answer::Changed(copy_found(alloc, found.as_ref())?)),
+            Answer::TooLarge(bytes) => Ok(Answer::TooLarge(*bytes)),
+            Answer::Cleared => Ok(Answer::Cleared),
+            Answer::Opened => Ok(Answer::Opened),
+            Answer::Kept => Ok(Answer::Kept),
+            Answer::NotStaged => Ok(Answer::NotStaged),
+            Answer::DigestDiffers { wanted, got } => Ok(Answer::DigestDiffers {
+                wanted: *wanted,
+                got: *got,
+            }),
+            Answer::Done(stamp) => Ok(Answer::Done(*stamp)),
+            Answer::NoParent(found) => Ok(Answer::NoParent(copy_found(alloc, found.as_ref())?)),
+            Answer::Differs(found) => Ok(Answer::Differs(copy_found(alloc, found.as_ref())?)),
+            Answer::NoLink => Ok(Answer::NoLink),
+            Answer::NoExec => Ok(Answer::NoExec),
+            Answer::NotEmpty => Ok(Answer::NotEmpty),
+            Answer::Full(room) => Ok(Answer::Full(*room)),
+            Answer::Failed => Ok(Answer::Failed),
+        }
+    }
+
+    /// Whether it tells that the operation was done. It takes no memory.
+    pub fn is_done(&self) -> bool
+        ensures { result ≡ is_done self.now }
+    {
+        match self {
+            Answer::Cleared => true,
+            Answer::Opened => true,
+            Answer::Kept => true,
+            Answer::Done(_) => true,
+            _ => false,
+        }
+    }
+
+    /// Whether it tells that the unfinished file was dropped. It takes no memory.
+    pub fn is_dropped(&self) -> bool
+        ensures { result ≡ is_dropped self.now }
+    {
+        match self {
+            Answer::DigestDiffers { .. } => true,
+            _ => false,
+        }
+    }
+
+    /// Whether it is Full. It takes no memory.
+    pub fn is_full(&self) -> bool
+        ensures { result ≡ is_full self.now }
+    {
+        match self {
+            Answer::Full(_) => true,
+            _ => false,
+        }
+    }
+
+    /// Whether it is Failed. It takes no memory.
+    pub fn is_failed(&self) -> bool
+        ensures { result ≡ is_failed self.now }
+    {
+        match self {
+            Answer::Failed => true,
+            _ => false,
+        }
+    }
+
+    /// How many rows it lists. It takes no memory.
+    pub fn rows_in(&self) -> usize
+        ensures { result ≡ rows_in self.now }
+    {
+        match self {
+            Answer::Listed(rows) => rows.len(),
+            _ => 0,
+        }
     }
 }

@@ -1,4 +1,4 @@
-// The bytes of a file, or of a part of one.
+//! The bytes of a file, or of a part of one.
 ghost use Rattle.std.specs.Prelude.{◌≡◌, ◌==◌, ◌++◌, [], length, IfOk, OnOk, OnErr};
 
 use std::alloc::{AllocError, Global};

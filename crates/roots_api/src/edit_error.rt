@@ -1,4 +1,4 @@
-// Why an edit was not done.
+//! Why an edit was not done.
 ghost use Rattle.std.specs.Prelude.{◌≡◌};
 
 use entry_tree::Atom;

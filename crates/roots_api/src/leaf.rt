@@ -1,4 +1,4 @@
-// What a file or a link replaces.
+//! What a file or a link replaces.
 ghost use Rattle.std.specs.Prelude.{◌≡◌, cond, Some, None, IsTrue, IfOk, OnErr};
 ghost use Rattle.entry_tree.specs.Entry.{is_link};
 ghost use Rattle.roots_api.specs.Expected.{is_leaf};
@@ -61,7 +61,7 @@ fn is_leaf(entry: &Entry) -> bool
 {
     match entry {
         Entry::Dir => false,
-        Entry::File(_) => true,
+        Entry::File(_, _) => true,
         Entry::Link(_) => true,
         Entry::Other => false,
     }

@@ -5,7 +5,7 @@
 //! its log: `answer_of` and `after` of `specs/Steps.antt` say what an operation answers on a state and what it makes of it,
 //! `specs/Edits.antt` says it of edits, and `specs/Logs.antt` says which logs are legal.
 //!
-//! [`Root`] is one root, [`Roots`] are several with names.
+//! [`Root`] is one root, [`Roots`] are several with names, and a [`RootLink`] reaches the two roots of one session.
 #![tactic(auto)]
 
 mod answer;
@@ -13,12 +13,15 @@ mod content;
 mod edit;
 mod edit_error;
 mod event;
+mod file_entry;
+mod found;
 pub mod laws;
 mod leaf;
 mod limits;
 mod op;
 mod root;
 mod root_id;
+mod root_link;
 mod roots;
 mod rows;
 mod stamps;
@@ -30,11 +33,14 @@ pub use content::Content;
 pub use edit::Edit;
 pub use edit_error::EditError;
 pub use event::{Deed, Event, Span};
+pub use file_entry::FileEntry;
+pub use found::{copy_found, has_stamp, is_expected};
 pub use leaf::Leaf;
 pub use limits::{MAX_BYTES_HELD, MAX_FETCH, MAX_LOG_SIZE, MAX_PIECE};
 pub use op::Op;
 pub use root::Root;
 pub use root_id::RootId;
+pub use root_link::RootLink;
 pub use roots::Roots;
 pub use rows::Rows;
 pub use stamps::Stamps;

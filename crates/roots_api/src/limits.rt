@@ -1,4 +1,4 @@
-// The limits of roots.
+//! The limits of roots.
 
 /// How many bytes a file has at most that is fetched.
 pub const MAX_FETCH: u64 = 16_777_216;

@@ -1,16 +1,20 @@
-// What a session asks of a root.
-ghost use Rattle.std.specs.Prelude.{◌≡◌, IsTrue, IfOk, OnErr};
+//! What a session asks of a root.
+ghost use Rattle.std.specs.Prelude.{◌≡◌, IsTrue, IfOk, OnErr, length};
+ghost use Rattle.roots_api.specs.Asked.{IsAsked, IsEntry, IsReplaced};
 ghost use Rattle.roots_api.specs.Copying.{has_path_or_bytes};
+ghost use Rattle.roots_api.specs.Logs.{appended_by, offset_of};
+ghost use Rattle.roots_api.specs.Steps.{is_changing};
 
 use crate::content::Content;
+use crate::file_entry::FileEntry;
 use crate::leaf::Leaf;
 use crate::tracked::Tracked;
-use entry_tree::{Digest, Stamp, Text};
+use entry_tree::{Digest, Entry, Stamp, Text};
 use std::alloc::{AllocError, Global};
 use sync_path::Path;
 
-/// An operation that a session asks of a root. `Place`, `MakeDir`, `MakeLink` and `Remove` change the tree; they are
-/// done only where what is expected stands at the path.
+/// An operation that a session asks of a root. `Place`, `MakeDir`, `MakeLink`, `Remove` and `SetExec` change the tree; they
+/// are done only where the entry that they expect stands at the path, with its stamp and executable bit.
 #[derive(Debug, Drop)]
 pub enum Op {
     /// The names in a folder, with their entries.
@@ -42,6 +46,8 @@ pub enum Op {
         path: Path,
         /// The digest of the kept bytes.
         digest: Digest,
+        /// Whether the file is executable.
+        exec: bool,
         /// What is replaced, if anything.
         expected: Option<Leaf>,
     },
@@ -61,6 +67,14 @@ pub enum Op {
         path: Path,
         /// What is taken away.
         expected: Tracked,
+    },
+    /// Sets or clears the executable bit of a file, and leaves its stamp.
+    SetExec {
+        path: Path,
+        /// The file that is there.
+        expected: FileEntry,
+        /// The bit that it gets.
+        on: bool,
     },
 }
 
@@ -88,8 +102,9 @@ impl Op {
             Op::Place {
                 path,
                 digest,
+                exec,
                 expected,
-            } => copy_place(alloc, path, *digest, expected),
+            } => copy_place(alloc, path, *digest, *exec, expected),
             Op::MakeDir { path } => Ok(Op::MakeDir {
                 path: path.copy(alloc)?,
             }),
@@ -102,7 +117,114 @@ impl Op {
                 path: path.copy(alloc)?,
                 expected: expected.copy(alloc)?,
             }),
+            Op::SetExec { path, expected, on } => Ok(Op::SetExec {
+                path: path.copy(alloc)?,
+                expected: expected.copy(),
+                on: *on,
+            }),
         }
+    }
+
+    /// Whether it is one of the five that change the tree. It takes no memory.
+    pub fn is_changing(&self) -> bool
+        ensures { result ≡ is_changing self.now }
+    {
+        match self {
+            Op::Place { .. } => true,
+            Op::MakeDir { .. } => true,
+            Op::MakeLink { .. } => true,
+            Op::Remove { .. } => true,
+            Op::SetExec { .. } => true,
+            _ => false,
+        }
+    }
+
+    /// The byte from which on it fetches; 0 of another operation. It takes no memory.
+    pub fn offset(&self) -> u64
+        ensures { result ≡ offset_of self.now }
+    {
+        match self {
+            Op::Fetch { offset, .. } => *offset,
+            _ => 0,
+        }
+    }
+
+    /// How many bytes it appends to a staged file. It takes no memory.
+    pub fn appended_len(&self) -> usize
+        ensures { result ≡ length (appended_by self.now) }
+    {
+        match self {
+            Op::StageAppend { bytes } => bytes.len(),
+            _ => 0,
+        }
+    }
+
+    /// Each operation that there is can be asked: its fields keep what `IsAsked` says. It does nothing.
+    pub fn can_be_asked(&self)
+        ensures { IsAsked self.now }
+    {
+        match self {
+            Op::List { path } => {
+                let _ = path.names();
+            }
+            Op::Fetch { path, .. } => {
+                let _ = path.names();
+            }
+            Op::StageClear => {}
+            Op::StageOpen => {}
+            Op::StageAppend { .. } => {}
+            Op::StageKeep { digest } => {
+                let _ = digest.as_bytes();
+            }
+            Op::Place {
+                path,
+                digest,
+                expected,
+                ..
+            } => {
+                let _ = path.names();
+                let _ = digest.as_bytes();
+                can_be_replaced(expected);
+            }
+            Op::MakeDir { path } => {
+                let _ = path.names();
+            }
+            Op::MakeLink {
+                path,
+                text,
+                expected,
+            } => {
+                let _ = path.names();
+                let _ = text.as_str();
+                can_be_replaced(expected);
+            }
+            Op::Remove { path, expected } => {
+                let _ = path.names();
+                can_be(expected.entry());
+            }
+            Op::SetExec { path, expected, .. } => {
+                let _ = path.names();
+                let _ = expected.entry();
+            }
+        }
+    }
+}
+
+// What the type of an entry keeps. It does nothing.
+fn can_be(entry: &Entry)
+    ensures { IsEntry entry.now }
+{
+    if let Entry::Link(text) = entry {
+        let _ = text.as_str();
+    }
+}
+
+// What the type of an expected leaf keeps. It does nothing.
+fn can_be_replaced(expected: &Option<Leaf>)
+    ensures { IsReplaced expected.now }
+{
+    if let Some(leaf) = expected {
+        can_be(leaf.entry());
     }
 }
 
@@ -123,15 +245,17 @@ fn copy_place(
     alloc: Global,
     path: &Path,
     digest: Digest,
+    exec: bool,
     expected: &Option<Leaf>,
 ) -> Result<Op, AllocError>
-    ensures { IfOk result (λ op. op ≡ Op.Place path.now digest expected.now) }
+    ensures { IfOk result (λ op. op ≡ Op.Place path.now digest exec expected.now) }
 {
     let path = path.copy(alloc)?;
     let expected = copy_expected(alloc, expected)?;
     Ok(Op::Place {
         path,
         digest,
+        exec,
         expected,
     })
 }

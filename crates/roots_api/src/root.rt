@@ -1,10 +1,11 @@
-// What a root is.
-ghost use Rattle.std.specs.Prelude.{ℕ, Bool, List, Option, Result, IsTrue, IsFalse, IfOk, IfSome, ◌≤◌};
+//! What a root is.
+ghost use Rattle.std.specs.Prelude.{◌≡◌, ℕ, Bool, List, Option, Result, IsTrue, IsFalse, IfOk, OnErr, IfSome, ◌≤◌};
 ghost use Rattle.std.specs.declared.alloc.AllocError.{AllocError};
 ghost use Rattle.fault_count.specs.Rose.{Rose};
-ghost use Rattle.roots_api.specs.Answers.{IsAnswerTo, is_full, is_failed, is_no_link};
+ghost use Rattle.finite_maps.specs.Told.{WhereTold};
+ghost use Rattle.roots_api.specs.Answers.{IsAnswerTo, is_full, is_failed, is_no_link, is_no_exec};
 ghost use Rattle.roots_api.specs.Logs.{IsLegal};
-ghost use Rattle.roots_api.specs.Told.{IsSession, WhereTold, CallsOn};
+ghost use Rattle.roots_api.specs.Told.{IsSession, CallsOn};
 ghost use Rattle.roots_api.specs.declared.answer.Answer.{Answer};
 ghost use Rattle.roots_api.specs.declared.event.Event.{Event};
 ghost use Rattle.roots_api.specs.declared.op.Op.{Op};
@@ -36,7 +37,11 @@ pub trait Root {
     // Whether roots of its type keep links. The others may answer NoLink.
     ghost keeps_links: { Bool };
 
-    /// Does the operation for the session, and answers. Want of memory leaves all as it was.
+    // Whether roots of its type keep executable bits. The others may answer NoExec where a bit is to be set.
+    ghost keeps_bits: { Bool };
+
+    /// Does the operation for the session, and answers. Want of memory leaves the counts, and the log where it is told. (A
+    /// root behind a connection may have been asked all the same.)
     fn call(&mut self, alloc: Global, who: &Who, op: &Op) -> Result<Answer, AllocError>
         requires { IsSession who.now }
 
@@ -53,5 +58,7 @@ pub trait Root {
         ensures full_counts { full_answers self.old ≤ full_answers self.new }
         ensures full { IfOk result (λ answer. IsTrue (is_full answer) → IsTrue is_bounded × Rose (full_answers self.old) (full_answers self.new)) }
         ensures no_link { IfOk result (λ answer. IsTrue (is_no_link answer) → IsFalse keeps_links) }
+        ensures no_exec { IfOk result (λ answer. IsTrue (is_no_exec answer) → IsFalse keeps_bits) }
+        ensures memory { OnErr result ((faults self.new ≡ faults self.old) × (full_answers self.new ≡ full_answers self.old)) }
         ensures step { leads self.old who.now op.now result self.new };
 }

@@ -1,4 +1,4 @@
-// The names of roots among several.
+//! The names of roots among several.
 
 /// A root among several, by its number.
 #[derive(Clone, Copy, Debug, PartialEq, Eq)]

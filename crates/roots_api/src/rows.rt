@@ -1,4 +1,4 @@
-// What stands directly in a folder.
+//! What stands directly in a folder.
 ghost use Rattle.std.specs.Prelude.{◌≡◌, ◌==◌, ◌++◌, ◌∷◌, [], length, IfOk, OnOk, OnErr};
 
 use entry_tree::{Entry, Node};

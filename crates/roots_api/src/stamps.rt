@@ -1,4 +1,4 @@
-// The stamps of files, by path.
+//! The stamps of files, by path.
 ghost use Rattle.std.specs.Prelude.{◌≡◌, OnOk, OnErr};
 ghost use Rattle.std.specs.FinMap as map;
 

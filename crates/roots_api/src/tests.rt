@@ -1,4 +1,4 @@
-use crate::{Answer, Content, Edit, Leaf, Op, Room, Rows, Stamps, Tracked};
+use crate::{Answer, Content, Edit, FileEntry, Leaf, Op, Room, Rows, Stamps, Tracked};
 use entry_tree::{Digest, Entry, Stamp, Text};
 use std::alloc::Global;
 use std::test::Fail;
@@ -8,7 +8,7 @@ use sync_path::{Name, Path};
 fn entry(alloc: Global, kind: char) -> Result<Entry, Fail> {
     match kind {
         'd' => Ok(Entry::Dir),
-        'f' => Ok(Entry::File(Stamp(7))),
+        'f' => Ok(Entry::File(Stamp(7), true)),
         'l' => Ok(Entry::Link(Text::read(alloc, "there")?)),
         _ => Ok(Entry::Other),
     }
@@ -21,6 +21,13 @@ fn is_leaf(alloc: Global, kind: char) -> Result<bool, Fail> {
             let copy = leaf.copy(alloc)?;
             Ok(copy.entry() == leaf.entry())
         }
+    }
+}
+
+fn is_file(alloc: Global, kind: char) -> Result<bool, Fail> {
+    match FileEntry::of(&entry(alloc, kind)?) {
+        None => Ok(false),
+        Some(file) => Ok(file.copy().entry() == Entry::File(Stamp(7), true)),
     }
 }
 
@@ -37,12 +44,13 @@ fn is_tracked(alloc: Global, kind: char) -> Result<bool, Fail> {
 #[test]
 fn what_is_replaced_and_what_is_taken_away(rt: HostRuntime) -> Result<(), Fail> {
     let alloc = rt.alloc();
-    for (kind, leaf, tracked) in [
-        ('d', false, true),
-        ('f', true, true),
-        ('l', true, true),
-        ('o', false, false),
+    for (kind, leaf, file, tracked) in [
+        ('d', false, false, true),
+        ('f', true, true, true),
+        ('l', true, false, true),
+        ('o', false, false, false),
     ] {
+        assert_eq!(rt; is_file(alloc, kind)?, file, "{kind}");
         assert_eq!(rt; is_leaf(alloc, kind)?, leaf, "{kind}");
         assert_eq!(rt; is_tracked(alloc, kind)?, tracked, "{kind}");
     }
@@ -95,13 +103,19 @@ fn op(alloc: Global, kind: &str, path: Path) -> Result<Op, Fail> {
         "place" => Ok(Op::Place {
             path,
             digest: Digest::of(b"abc"),
-            expected: Leaf::of(Entry::File(Stamp(2))),
+            exec: true,
+            expected: Leaf::of(Entry::File(Stamp(2), false)),
         }),
         "dir" => Ok(Op::MakeDir { path }),
         "link" => Ok(Op::MakeLink {
             path,
             text: Text::read(alloc, "there")?,
             expected: None,
+        }),
+        "exec" => Ok(Op::SetExec {
+            path,
+            expected: FileEntry::new(Stamp(2), true),
+            on: false,
         }),
         _ => Ok(Op::Remove {
             path,
@@ -115,6 +129,7 @@ fn copies_of_operations(rt: HostRuntime) -> Result<(), Fail> {
     let alloc = rt.alloc();
     for kind in [
         "list", "fetch", "clear", "open", "append", "keep", "place", "dir", "link", "remove",
+        "exec",
     ] {
         let op = op(alloc, kind, Path::read(alloc, "d/f")?)?;
         let copy = op.copy(alloc)?;
@@ -137,6 +152,7 @@ fn edit(alloc: Global, kind: &str, path: Path) -> Result<Edit, Fail> {
         }),
         "dir" => Ok(Edit::Dir { path }),
         "other" => Ok(Edit::Other { path }),
+        "exec" => Ok(Edit::SetExec { path, on: true }),
         _ => Ok(Edit::Del { path }),
     }
 }
@@ -144,7 +160,7 @@ fn edit(alloc: Global, kind: &str, path: Path) -> Result<Edit, Fail> {
 #[test]
 fn copies_of_edits(rt: HostRuntime) -> Result<(), Fail> {
     let alloc = rt.alloc();
-    for kind in ["put", "link", "dir", "other", "del"] {
+    for kind in ["put", "link", "dir", "other", "exec", "del"] {
         let edit = edit(alloc, kind, Path::read(alloc, "d/f")?)?;
         let copy = edit.copy(alloc)?;
         let text = format!(in alloc; "{edit:?}")?;
@@ -173,6 +189,7 @@ fn answer(alloc: Global, kind: &str) -> Result<Answer, Fail> {
         }),
         "done" => Ok(Answer::Done(Some(Stamp(3)))),
         "no-parent" => Ok(Answer::NoParent(None)),
+        "no-exec" => Ok(Answer::NoExec),
         _ => Ok(Answer::Full(Room { log: 1, bytes: 2 })),
     }
 }
@@ -188,6 +205,7 @@ fn copies_of_answers(rt: HostRuntime) -> Result<(), Fail> {
         "digest-differs",
         "done",
         "no-parent",
+        "no-exec",
         "full",
     ] {
         let answer = answer(alloc, kind)?;

@@ -1,7 +1,6 @@
-// What is taken away.
+//! What is taken away.
 ghost use Rattle.std.specs.Prelude.{◌≡◌, cond, Some, None, IsTrue, IfOk, OnErr};
-ghost use Rattle.entry_tree.specs.Entry.{is_link};
-ghost use Rattle.roots_api.specs.Expected.{is_tracked};
+ghost use Rattle.entry_tree.specs.Entry.{is_link, is_tracked};
 
 use entry_tree::{Entry, Node};
 use std::alloc::{AllocError, Global};
@@ -16,7 +15,7 @@ pub struct Tracked {
 impl Model for Tracked {
     ghost use Rattle.std.specs.Prelude.{IsTrue};
     ghost use Rattle.entry_tree.specs.declared.entry.Entry.{Entry};
-    ghost use Rattle.roots_api.specs.Expected.{is_tracked};
+    ghost use Rattle.entry_tree.specs.Entry.{is_tracked};
 
     ghost Value = { Entry };
 
@@ -30,7 +29,7 @@ impl Tracked {
     pub fn of(entry: Entry) -> Option<Tracked>
         ensures { result ≡ cond (is_tracked entry) (Some entry) None }
     {
-        if is_tracked(&entry) {
+        if entry.is_tracked() {
             Some(Tracked { entry })
         } else {
             None
@@ -52,17 +51,5 @@ impl Tracked {
     {
         let entry = self.entry.copy(alloc)?;
         Ok(Tracked { entry })
-    }
-}
-
-// Whether an entry is a folder, a file or a link.
-fn is_tracked(entry: &Entry) -> bool
-    ensures { result ≡ is_tracked entry.now }
-{
-    match entry {
-        Entry::Dir => true,
-        Entry::File(_) => true,
-        Entry::Link(_) => true,
-        Entry::Other => false,
     }
 }

@@ -1,4 +1,4 @@
-// Who asks a root.
+//! Who asks a root.
 
 /// Who asked for what an event of a root's log tells.
 #[derive(Clone, Copy, Debug, PartialEq, Eq)]

@@ -92,7 +92,7 @@ fn long_files_are_fetched_in_pieces(rt: HostRuntime) -> Result<(), Fail> {
 // Logs so many operations.
 fn log_many(alloc: Global, root: &mut MemRoot, count: u64) -> Result<(), Fail> {
     for _ in 0..count {
-        let _ = root.ask(alloc, &session(1), &Op::StageClear)?;
+        let _ = root.call(alloc, &session(1), &Op::StageClear)?;
     }
     Ok(())
 }

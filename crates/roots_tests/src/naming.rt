@@ -33,7 +33,7 @@ fn shows(alloc: Global, roots: &impl Roots, name: &str) -> Result<bool, Fail> {
     let root = roots.find(name).ok_or("no root")?;
     let view = roots.view(alloc, root)?;
     let path = Path::read(alloc, "f")?;
-    Ok(view.get(&path) == Some(&Atom::File(Digest::of(b"abc"))))
+    Ok(view.get(&path) == Some(&Atom::File(Digest::of(b"abc"), false)))
 }
 
 // Whether a file to be staged is begun.

@@ -4,7 +4,7 @@ ghost use Rattle.roots_api.specs.Told.{IsSession};
 use crate::showing::{answer_text, edit_text};
 use entry_tree::{Digest, Entry, Stamp, Text};
 use mem_roots::MemRoot;
-use roots_api::{Content, Edit, Leaf, Op, Tracked, Who};
+use roots_api::{Content, Edit, FileEntry, Leaf, Op, Tracked, Who};
 use std::alloc::Global;
 use std::test::Fail;
 use sync_path::Path;
@@ -29,11 +29,18 @@ fn zeros(alloc: Global, len: usize) -> Result<Content, Fail> {
     Ok(Content::from_vec(vec![in alloc; 0u8; len]?))
 }
 
-// The entry of a text such as `d`, `f3`, `lthere` or `o`, or none.
+fn stamp_of(text: &str) -> Result<Stamp, Fail> {
+    let stamp: u64 = text.parse().ok().ok_or("no stamp")?;
+    Ok(Stamp(stamp as u128))
+}
+
+// The entry of a text such as `d`, `f3`, `x3` (executable), `lthere` or `o`, or none.
 fn entry_of(alloc: Global, text: &str) -> Result<Option<Entry>, Fail> {
     if let Some(stamp) = text.strip_prefix("f") {
-        let stamp: u64 = stamp.parse().ok().ok_or("no stamp")?;
-        return Ok(Some(Entry::File(Stamp(stamp as u128))));
+        return Ok(Some(Entry::File(stamp_of(stamp)?, false)));
+    }
+    if let Some(stamp) = text.strip_prefix("x") {
+        return Ok(Some(Entry::File(stamp_of(stamp)?, true)));
     }
     if let Some(link) = text.strip_prefix("l") {
         return Ok(Some(Entry::Link(Text::read(alloc, link)?)));
@@ -75,6 +82,10 @@ fn edit_of(alloc: Global, verb: &str, path: &str, word: &str) -> Result<Edit, Fa
         }),
         "dir" => Ok(Edit::Dir { path }),
         "other" => Ok(Edit::Other { path }),
+        "exec" => Ok(Edit::SetExec {
+            path,
+            on: word == "on",
+        }),
         _ => Ok(Edit::Del { path }),
     }
 }
@@ -94,6 +105,26 @@ fn stage_of(alloc: Global, verb: &str, word: &str) -> Result<Option<Op>, Fail> {
     }
 }
 
+// Of the text's bytes, in place of the entry.
+fn place_of(alloc: Global, path: Path, word: &str, more: &str, exec: bool) -> Result<Op, Fail> {
+    Ok(Op::Place {
+        path,
+        digest: Digest::of(word.as_bytes()),
+        exec,
+        expected: leaf_of(alloc, more)?,
+    })
+}
+
+// Of the file that the text names.
+fn exec_of(alloc: Global, path: Path, word: &str, on: bool) -> Result<Op, Fail> {
+    let entry = entry_of(alloc, word)?.ok_or("no entry")?;
+    Ok(Op::SetExec {
+        path,
+        expected: FileEntry::of(&entry).ok_or("no file")?,
+        on,
+    })
+}
+
 // The operation of a line such as `place a/b text f3`, which has a path.
 fn op_of(alloc: Global, verb: &str, path: &str, word: &str, more: &str) -> Result<Op, Fail> {
     let path = Path::read(alloc, path)?;
@@ -101,14 +132,13 @@ fn op_of(alloc: Global, verb: &str, path: &str, word: &str, more: &str) -> Resul
         "list" => Ok(Op::List { path }),
         "fetch" => Ok(Op::Fetch {
             path,
-            stamp: Stamp(word.parse::<u64>().ok().ok_or("no stamp")? as u128),
+            stamp: stamp_of(word)?,
             offset: more.parse().ok().ok_or("no offset")?,
         }),
-        "place" => Ok(Op::Place {
-            path,
-            digest: Digest::of(word.as_bytes()),
-            expected: leaf_of(alloc, more)?,
-        }),
+        "place" => place_of(alloc, path, word, more, false),
+        "placex" => place_of(alloc, path, word, more, true),
+        "exec" => exec_of(alloc, path, word, true),
+        "noexec" => exec_of(alloc, path, word, false),
         "mkdir" => Ok(Op::MakeDir { path }),
         "mklink" => Ok(Op::MakeLink {
             path,
@@ -132,7 +162,7 @@ fn done(alloc: Global, root: &mut MemRoot, line: &str) -> Result<String, Fail> {
     let more = words.next().unwrap_or("");
     if who == "E" {
         let change = edit_of(alloc, verb, path, word)?;
-        let result = root.change(alloc, &change);
+        let result = root.edit(alloc, &change);
         return edit_text(alloc, &result);
     }
     let who = session(if who == "1" { 1 } else { 2 });
@@ -140,7 +170,7 @@ fn done(alloc: Global, root: &mut MemRoot, line: &str) -> Result<String, Fail> {
         Some(op) => op,
         None => op_of(alloc, verb, path, word, more)?,
     };
-    let answer = root.ask(alloc, &who, &op)?;
+    let answer = root.call(alloc, &who, &op)?;
     answer_text(alloc, &answer)
 }
 

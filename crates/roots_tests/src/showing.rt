@@ -4,12 +4,13 @@ use roots_api::{Answer, EditError, Rows};
 use std::alloc::Global;
 use std::test::Fail;
 
-// A folder, a file with its stamp, a link with its text, another thing, or nothing.
+// A folder, a file (`x` where it is executable) with its stamp, a link with its text, another thing, or nothing.
 pub fn entry_text(alloc: Global, found: Option<&Entry>) -> Result<String, Fail> {
     match found {
         None => Ok(String::from_str(alloc, "-")?),
         Some(Entry::Dir) => Ok(String::from_str(alloc, "d")?),
-        Some(Entry::File(stamp)) => Ok(format!(in alloc; "f{}", stamp.0)?),
+        Some(Entry::File(stamp, false)) => Ok(format!(in alloc; "f{}", stamp.0)?),
+        Some(Entry::File(stamp, true)) => Ok(format!(in alloc; "x{}", stamp.0)?),
         Some(Entry::Link(text)) => Ok(format!(in alloc; "l{}", text.as_str())?),
         Some(Entry::Other) => Ok(String::from_str(alloc, "o")?),
     }
@@ -20,7 +21,8 @@ fn atom_text(alloc: Global, found: &Option<Atom>) -> Result<String, Fail> {
     match found {
         None => Ok(String::from_str(alloc, "-")?),
         Some(Atom::Dir) => Ok(String::from_str(alloc, "d")?),
-        Some(Atom::File(_)) => Ok(String::from_str(alloc, "f")?),
+        Some(Atom::File(_, false)) => Ok(String::from_str(alloc, "f")?),
+        Some(Atom::File(_, true)) => Ok(String::from_str(alloc, "x")?),
         Some(Atom::Link(text)) => Ok(format!(in alloc; "l{}", text.as_str())?),
         Some(Atom::Untracked) => Ok(String::from_str(alloc, "u")?),
         Some(Atom::Problem(_)) => Ok(String::from_str(alloc, "p")?),
@@ -78,6 +80,7 @@ fn answer_word(answer: &Answer) -> &'static str {
         Answer::DigestDiffers { .. } => "digest-differs",
         Answer::Done(_) => "done",
         Answer::NoLink => "no-link",
+        Answer::NoExec => "no-exec",
         Answer::NotEmpty => "not-empty",
         Answer::Failed => "failed",
         _ => "",

@@ -116,6 +116,48 @@ E other d/o => done
 2 place z two - => done 6
 ";
 
+/// The executable bit: edits and operations, each with the right entry, another stamp, the other bit and another kind.
+const BITS: &str = "\
+E dir d => done
+E put d/f abc => done
+E exec d/f on => done
+1 list d => listed f=x0
+1 fetch d/f 0 0 => piece abc last
+E exec d/f on => done
+E exec d/f off => done
+E exec d on => refused d d
+E exec  on => refused  d
+E exec n on => refused n -
+E exec n/f on => refused n/f -
+E exec d/f/g on => refused d/f/g -
+1 exec d/f f0 => done
+1 exec d/f f0 => differs x0
+1 exec d/f x1 => differs x0
+1 exec d f0 => differs d
+1 exec n f0 => differs -
+1 exec d/f x0 => done
+1 noexec d/f x0 => done
+1 noexec d/f x0 => differs f0
+1 open => opened
+1 append abd => opened
+1 keep abd => kept
+1 placex d/f abd x0 => differs f0
+1 placex d/f abd f0 => done 1
+1 place d/g abd - => done 2
+1 list d => listed f=x1 g=f2
+1 remove d/f f1 => differs x1
+E put d/f abc => done
+1 list d => listed f=f3 g=f2
+";
+
+#[test]
+fn executable_bits_are_set_and_kept(rt: HostRuntime) -> Result<(), Fail> {
+    let alloc = rt.alloc();
+    let mut root = MemRoot::new(alloc)?;
+    assert_eq!(rt; played(alloc, &mut root, BITS)?.as_str(), BITS);
+    Ok(())
+}
+
 #[test]
 fn edits_are_done_or_refused(rt: HostRuntime) -> Result<(), Fail> {
     let alloc = rt.alloc();

@@ -1,10 +1,10 @@
 -- The replies, as bytes.
-use Rattle.std.specs.Prelude.{ℕ, ◌+◌, List, [], ◌∷◌, ◌++◌, codes, decimal}
+use Rattle.std.specs.Prelude.{false, ℕ, ◌+◌, List, [], ◌∷◌, ◌++◌, codes, decimal}
 use Rattle.std.specs.List.{flat_map}
 use Rattle.std.specs.FinMap as map
 use Rattle.sha2.specs.Sha256.{sha256}
 use Rattle.entry_tree.specs.declared.atom.Atom.TheVariants.{Dir, File}
-use Rattle.entry_tree.specs.Atom.{spelling_of}
+use Rattle.entry_tree.specs.AtomText.{spelling_of}
 use Rattle.script_engine.specs.Names.{NameSet}
 use Rattle.script_engine.specs.World.{Files}
 
@@ -37,7 +37,7 @@ flush_reply cycle conflicts = cycle_line cycle (map.len conflicts) ++ flat_map c
 
 -- one file of a root
 abbrev pub file_line : (List ℕ) × (List ℕ) → List ℕ
-file_line (name, contents) = output_line (codes "  " ++ name ++ codes " " ++ spelling_of (File (sha256 contents)))
+file_line (name, contents) = output_line (codes "  " ++ name ++ codes " " ++ spelling_of (File (sha256 contents) false))
 
 -- the root itself and its files, in the order of their names
 abbrev pub show_reply : List ℕ → Files → List ℕ

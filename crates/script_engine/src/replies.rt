@@ -101,7 +101,7 @@ fn push_file_line(
     ensures { OnOk result (string_bytes text.new ≡ string_bytes text.old ++ reply.file_line (name.now, contents.now)) }
 {
     let name = name.as_str();
-    let atom = text_of(alloc, &Atom::File(Digest::of(contents.as_slice())))?;
+    let atom = text_of(alloc, &Atom::File(Digest::of(contents.as_slice()), false))?;
     let atom = atom.as_str();
     let line = format!(in alloc; "  {name} {atom}\n")?;
     text.push_str(line.as_str())

@@ -1,4 +1,4 @@
-// A root in memory is a root, whose log is told.
+//! A root in memory is a root, whose log is told.
 use crate::mem_root::MemRoot;
 use roots_api::{Answer, Op, Root, Who};
 use std::alloc::{AllocError, Global};
@@ -20,7 +20,9 @@ impl Root for MemRoot {
 
     ghost keeps_links = { true };
 
+    ghost keeps_bits = { true };
+
     fn call(&mut self, alloc: Global, who: &Who, op: &Op) -> Result<Answer, AllocError> {
-        self.ask(alloc, who, op)
+        MemRoot::call(self, alloc, who, op)
     }
 }

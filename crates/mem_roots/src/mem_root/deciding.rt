@@ -1,6 +1,6 @@
-// Which answer a root in memory gives.
+//! Which answer a root in memory gives.
 ghost use Rattle.std.specs.Prelude.{◌≡◌, IfOk};
-ghost use Rattle.roots_api.specs.Answers.{IsAnswerTo, IsFit};
+ghost use Rattle.roots_api.specs.Answers.{IsAnswerTo};
 ghost use Rattle.roots_api.specs.Logs.{state_of};
 ghost use Rattle.roots_api.specs.Steps.{answer_of};
 ghost use Rattle.mem_roots.specs.MemRoot.{decided, has_no_room, id_of, is_to_fail, mem_answer, places_too_much, room_of};
@@ -24,9 +24,9 @@ impl MemRoot {
     // The row's answer on the root's state.
     fn row(&self, alloc: Global, id: u128, op: &Op) -> Result<Answer, AllocError>
         ensures value { IfOk result (λ answer. answer ≡ answer_of (state_of self.now.log) id op.now) }
-        ensures fit { IfOk result (IsFit op.now) }
+        ensures row { IfOk result (IsAnswerTo op.now) }
     {
-        self.state.holds_paths();
+        let _ = &self.log;
         self.state.answer(alloc, id, op)
     }
 

@@ -1,4 +1,4 @@
-// What a root in memory refuses of edits, and what it logs of them.
+//! What a root in memory refuses of edits, and what it logs of them.
 ghost use Rattle.std.specs.Prelude.{◌≡◌, ◌+◌, None, IfOk, OnOk, OnErr, length, nat_lt};
 ghost use Rattle.std.specs.Option.{option_map};
 ghost use Rattle.roots_api.specs.Edits.{refused_at};
@@ -6,10 +6,10 @@ ghost use Rattle.roots_api.specs.Logs.{IsLegal, bytes_held, state_of};
 ghost use Rattle.roots_api.specs.Told.{edit_error, edit_event, put_by, refused_by};
 ghost use Rattle.mem_roots.specs.MemRoot.{with_event};
 
-use crate::events::{drop_last, edit_event};
 use crate::mem_root::MemRoot;
+use crate::mem_root::recording::drop_last;
 use crate::sizes::passes;
-use roots_api::{Edit, EditError, MAX_BYTES_HELD, MAX_LOG_SIZE};
+use roots_api::{Edit, EditError, Event, MAX_BYTES_HELD, MAX_LOG_SIZE};
 use std::alloc::{AllocError, Global};
 
 impl MemRoot {
@@ -51,7 +51,7 @@ impl MemRoot {
     fn puts_too_much(&self, change: &Edit) -> bool
         ensures { result ≡ nat_lt MAX_BYTES_HELD (bytes_held self.now.log + length (put_by change.now)) }
     {
-        passes(self.sizes.bytes, put_len(change) as u128, MAX_BYTES_HELD)
+        passes(self.sizes.bytes, change.put_len() as u128, MAX_BYTES_HELD)
     }
 
     /// Logs the change, and makes it. After an `Err` all is as it was.
@@ -61,8 +61,9 @@ impl MemRoot {
         ensures err { OnErr result (self.new ≡ self.old) }
         ensures legal { IsLegal self.new.log }
     {
-        let sizes = self.sizes.with_edit(put_len(change));
-        let event = edit_event(alloc, change)?;
+        let sizes = self.sizes.with_edit(change.put_len());
+        change.can_be_made();
+        let event = Event::of_edit(alloc, change)?;
         self.log.push(event)?;
         match self.state.edit(alloc, change) {
             Ok(()) => {
@@ -74,15 +75,5 @@ impl MemRoot {
                 Err(error)
             }
         }
-    }
-}
-
-// How many bytes the change adds to the ledger.
-fn put_len(change: &Edit) -> usize
-    ensures { result ≡ length (put_by change.now) }
-{
-    match change {
-        Edit::Put { bytes, .. } => bytes.len(),
-        _ => 0,
     }
 }

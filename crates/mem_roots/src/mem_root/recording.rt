@@ -1,15 +1,14 @@
-// What a root in memory logs of its operations.
-ghost use Rattle.std.specs.Prelude.{◌≡◌, ◌≤◌, false, OnOk, OnErr};
+//! What a root in memory logs of its operations.
+ghost use Rattle.std.specs.Prelude.{◌≡◌, ◌≤◌, ◌-◌, false, length, take, OnOk, OnErr};
 ghost use Rattle.roots_api.specs.Answers.{is_full};
 ghost use Rattle.roots_api.specs.Logs.{IsLegal};
 ghost use Rattle.roots_api.specs.Told.{IsSession, call_event};
 ghost use Rattle.mem_roots.specs.MemRoot.{mem_answer, with_event, with_full};
 
-use crate::events::{call_event, drop_last};
 use crate::mem_root::MemRoot;
 use crate::mem_root::deciding::id_of;
 use fault_count::count_fault;
-use roots_api::{Answer, Op, Who};
+use roots_api::{Answer, Event, Op, Who};
 use std::alloc::{AllocError, Global};
 
 impl MemRoot {
@@ -40,7 +39,8 @@ impl MemRoot {
         let id = id_of(who);
         let placed = self.state.placed_len(id, op, answer);
         let sizes = self.sizes.with(op, answer, placed);
-        let event = call_event(alloc, who, op, answer)?;
+        op.can_be_asked();
+        let event = Event::of_call(alloc, who, op, answer)?;
         self.log.push(event)?;
         match self.state.apply(alloc, id, op, answer) {
             Ok(()) => {
@@ -53,4 +53,11 @@ impl MemRoot {
             }
         }
     }
+}
+
+/// Takes the last event off. It takes no memory.
+pub(crate) fn drop_last(log: &mut Vec<Event>)
+    ensures { log.new.items ≡ take (length log.old.items - 1) log.old.items }
+{
+    let _ = log.pop();
 }

@@ -1,4 +1,4 @@
-// Roots in memory are roots, whose logs are told.
+//! Roots in memory are roots, whose logs are told.
 ghost use Rattle.std.specs.Prelude.{◌≡◌, ◌∷◌, []};
 ghost use Rattle.mem_roots.specs.Named.{named_root};
 
@@ -9,7 +9,7 @@ use std::alloc::{AllocError, Global};
 
 impl Roots for MemRoots {
     ghost use Rattle.std.specs.Prelude.{true};
-    ghost use Rattle.mem_roots.specs.Named.{named_root, log_at, faults_at, fulls_at, names_apart};
+    ghost use Rattle.mem_roots.specs.Named.{named_root, log_at, faults_at, fulls_at, names_apart, RootLeads, RootEdits};
 
     ghost named = { λ _. named_root };
 
@@ -19,14 +19,21 @@ impl Roots for MemRoots {
 
     ghost full_answers = { fulls_at };
 
+    ghost leads = { RootLeads };
+
+    ghost edits = { RootEdits };
+
     ghost is_bounded = { true };
 
     ghost keeps_links = { true };
+
+    ghost keeps_bits = { true };
 
     ghost apart = { names_apart };
 
     #[tactic(auto, unfolding(crate::specs::Named::named_root))]
     fn find(&self, name: &str) -> Option<RootId> {
+        self.are_legal();
         match name.as_bytes() {
             [] => None,
             [letter] => root_of(*letter),
@@ -41,11 +48,11 @@ impl Roots for MemRoots {
         who: &Who,
         op: &Op,
     ) -> Result<Answer, AllocError> {
-        self.ask(alloc, root, who, op)
+        MemRoots::call(self, alloc, root, who, op)
     }
 
     fn edit(&mut self, alloc: Global, root: RootId, change: &Edit) -> Result<(), EditError> {
-        self.change(alloc, root, change)
+        MemRoots::edit(self, alloc, root, change)
     }
 
     fn view(&self, alloc: Global, root: RootId) -> Result<Tree, AllocError> {

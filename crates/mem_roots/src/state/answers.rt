@@ -1,15 +1,14 @@
-// What a root answers on its state.
+//! What a root answers on its state.
 ghost use Rattle.std.specs.Prelude.{◌≡◌, IfOk, Some, is_some, cond};
 ghost use Rattle.std.specs.Option.{option_copied};
 ghost use Rattle.roots_api.specs.States.{staged_by, content_of, kept_by, next_stamp};
 ghost use Rattle.roots_api.specs.Steps.{answer_of, keep_answer};
 
 use crate::checks::{in_folder, listed, removed, where_expected};
-use crate::found::{copy_found, is_expected};
 use crate::pieces::piece_of;
 use crate::state::State;
 use entry_tree::{Digest, Entry, Stamp};
-use roots_api::{Answer, Content, Leaf, Op};
+use roots_api::{Answer, Content, Leaf, Op, copy_found, has_stamp};
 use std::alloc::{AllocError, Global};
 use sync_path::Path;
 
@@ -35,6 +34,7 @@ impl State {
                 path,
                 digest,
                 expected,
+                ..
             } => {
                 let answer = self.place_answer(id, digest);
                 in_folder(alloc, &self.tree, path, leaf_entry(expected), answer)
@@ -52,6 +52,10 @@ impl State {
                 let answer = removed(&self.tree, path, expected);
                 where_expected(alloc, &self.tree, path, Some(expected), answer)
             }
+            Op::SetExec { path, expected, .. } => {
+                let expected = expected.entry();
+                where_expected(alloc, &self.tree, path, Some(&expected), Answer::Done(None))
+            }
         }
     }
 
@@ -65,7 +69,7 @@ impl State {
         ensures { IfOk result (λ answer. answer ≡ answer_of self.now 0 (Op.Fetch path.now stamp offset)) }
     {
         let found = self.tree.get(path);
-        if is_expected(found, Some(&Entry::File(stamp))) {
+        if has_stamp(found, stamp) {
             return piece_of(alloc, self.content(stamp), offset);
         }
         let found = copy_found(alloc, found)?;

@@ -1,15 +1,16 @@
-// What edits need, and what they make of a state.
-ghost use Rattle.std.specs.Prelude.{◌≡◌, cond, Some, None, is_some, IfOk, OnOk, OnErr};
+//! What edits need, and what they make of a state.
+ghost use Rattle.std.specs.Prelude.{◌≡◌, not, cond, Some, None, is_some, IfOk, OnOk, OnErr};
 ghost use Rattle.std.specs.FinMap as map;
 ghost use Rattle.entry_tree.specs.Entry.{is_dir};
 ghost use Rattle.entry_tree.specs.Tree.{holds_folder};
 ghost use Rattle.roots_api.specs.Edits.{edited, refused_at, refused_where, first_of};
+ghost use Rattle.roots_api.specs.Expected.{holds_file};
 ghost use Rattle.roots_api.specs.States.{missing_parent};
 
-use crate::found::{copy_found, is_folder, missing_parent};
+use crate::found::{is_file, is_folder, missing_parent};
 use crate::state::State;
 use entry_tree::{Entry, TreeOf};
-use roots_api::Edit;
+use roots_api::{Edit, copy_found};
 use std::alloc::{AllocError, Global};
 use sync_path::Path;
 
@@ -27,6 +28,7 @@ impl State {
             Edit::Link { path, .. } => writing(alloc, &self.tree, path),
             Edit::Other { path } => writing(alloc, &self.tree, path),
             Edit::Dir { path } => making(alloc, &self.tree, path),
+            Edit::SetExec { path, .. } => marking(alloc, &self.tree, path),
             Edit::Del { path } => taking(alloc, &self.tree, path),
         }
     }
@@ -35,12 +37,13 @@ impl State {
     ///
     /// Cost: O(log n), the bytes put, and what is taken away.
     pub(crate) fn edit(&mut self, alloc: Global, edit: &Edit) -> Result<(), AllocError>
+        requires { refused_at self.old.tree edit.now ≡ None }
         ensures ok { OnOk result (self.new ≡ edited self.old edit.now) }
         ensures err { OnErr result (self.new ≡ self.old) }
     {
         match edit {
             Edit::Put { path, bytes } => match bytes.copy(alloc) {
-                Ok(bytes) => self.put(alloc, path, bytes),
+                Ok(bytes) => self.put(alloc, path, bytes, false),
                 Err(error) => Err(error),
             },
             Edit::Link { path, text } => match text.copy(alloc) {
@@ -49,6 +52,10 @@ impl State {
             },
             Edit::Other { path } => self.set(alloc, path, Entry::Other),
             Edit::Dir { path } => self.set(alloc, path, Entry::Dir),
+            Edit::SetExec { path, on } => {
+                self.set_exec(alloc, path, *on);
+                Ok(())
+            }
             Edit::Del { path } => {
                 self.take_away(path);
                 Ok(())
@@ -92,6 +99,18 @@ fn stands(tree: &TreeOf<Entry>, path: &Path) -> bool
     ensures { result ≡ is_some (map.get tree.now path.now) }
 {
     tree.get(path).is_some()
+}
+
+// What hinders an executable bit: no file there.
+fn marking(
+    alloc: Global,
+    tree: &TreeOf<Entry>,
+    path: &Path,
+) -> Result<Option<(Path, Option<Entry>)>, AllocError>
+    ensures { IfOk result (λ refused. refused ≡ refused_where (not (holds_file (map.get tree.now path.now))) tree.now path.now) }
+{
+    let refused = !is_file(tree.get(path));
+    refused_where(alloc, refused, tree, path)
 }
 
 // What hinders taking away: nothing there.

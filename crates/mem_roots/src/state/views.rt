@@ -1,8 +1,9 @@
-// What a root shows.
+//! What a root shows.
 ghost use Rattle.std.specs.Prelude.{◌≡◌, IfOk};
 ghost use Rattle.std.specs.Option.{option_map};
 ghost use Rattle.roots_api.specs.Views.{atom_of, view_of};
 
+use crate::setting::set_allowed;
 use crate::state::State;
 use entry_tree::{Atom, Digest, Entry, Tree};
 use std::alloc::{AllocError, Global};
@@ -15,9 +16,7 @@ impl State {
         let mut view = Tree::new(alloc);
         for (path, entry) in self.tree.iter() {
             let atom = self.atom_of(alloc, entry)?;
-            if view.set(alloc, path, atom).is_err() {
-                return Err(AllocError);
-            }
+            set_allowed(&mut view, alloc, path, atom)?;
         }
         Ok(view)
     }
@@ -28,7 +27,7 @@ impl State {
     {
         match entry {
             Entry::Dir => Ok(Atom::Dir),
-            Entry::File(stamp) => Ok(Atom::File(Digest::of(self.content(*stamp)))),
+            Entry::File(stamp, exec) => { Ok(Atom::File(Digest::of(self.content(*stamp)), *exec)) }
             Entry::Link(text) => match text.copy(alloc) {
                 Ok(text) => Ok(Atom::Link(text)),
                 Err(error) => Err(error),

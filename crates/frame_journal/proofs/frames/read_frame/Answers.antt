@@ -1,8 +1,8 @@
-use Rattle.std.proofs.Common.{◌≡◌, ℕ, ◌+◌, ◌≤◌, ◌<◌, List, length, take, drop, IsSomeAnd, subst, ◌∙◌, arith, rules}
+use Rattle.std.proofs.Common.{◌≡◌, ◌+◌, ◌≤◌, ◌<◌, length, take, drop, IsSomeAnd, subst, arith}
 use Rattle.std.proofs.lemmas.List.{length-drop}
 use Rattle.disk_model.specs.Content.{Content}
 use Rattle.disk_model.specs.Disk.{OnTold}
-use Rattle.frame_journal.specs.Reading.{IsHeadOf, BeginsWithLength}
+use Rattle.frame_journal.specs.Reading.{IsHeadOf}
 use Rattle.frame_journal.proofs.Told.{told_from_two, told_from_three}
 use Rattle.frame_journal.proofs.Found.{long_bad, whole_frame}
 use Rattle.frame_journal.proofs.frames.read_frame.Goals as goal

@@ -1,6 +1,5 @@
-use Rattle.std.proofs.Common.{◌≡◌, ℕ, ◌<◌, List, length, take, drop, ◌∙◌, arith, rules}
+use Rattle.std.proofs.Common.{drop, arith}
 use Rattle.std.proofs.lemmas.List.{length-drop}
-use Rattle.frame_journal.specs.Reading.{IsHeadOf}
 use Rattle.frame_journal.proofs.Told.{told_from_two}
 use Rattle.frame_journal.proofs.Found.{read_front}
 use Rattle.frame_journal.proofs.frames.read_head.Goals as goal

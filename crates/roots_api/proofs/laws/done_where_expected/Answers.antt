@@ -1,4 +1,4 @@
-use Rattle.roots_api.proofs.Expecting.{may_make, may_place, may_remove}
+use Rattle.roots_api.proofs.Expecting.{may_make, may_place, may_remove, may_set_exec}
 use Rattle.roots_api.proofs.laws.done_where_expected.Goals as goal
 
 pub returns-clause-place : goal.returns-clause-place
@@ -12,3 +12,6 @@ returns-clause-make_link c s id path text expected stamp h = may_make s path exp
 
 pub returns-clause-remove : goal.returns-clause-remove
 returns-clause-remove c = may_remove
+
+pub returns-clause-set_exec : goal.returns-clause-set_exec
+returns-clause-set_exec c = may_set_exec
