@@ -18,7 +18,7 @@ use Rattle.sync_path.specs.Path.{path_cmp, is_under, is_below, parent_of}
 use Rattle.sync_path.specs.PathOrder.{path_cmp_total}
 use Rattle.sync_path.proofs.Below.{below_is}
 use Rattle.entry_tree.specs.Atom.{is_dir, is_tracked}
-use Rattle.entry_tree.specs.Tree.{Names, ByPath, IsClosed, at_parent, refusal, set_at}
+use Rattle.entry_tree.specs.Tree.{Names, ByPath, at_parent, refusal, set_at}
 use Rattle.entry_tree.specs.declared.atom.Atom.{Atom}
 use Rattle.entry_tree.specs.declared.atom.Atom.TheVariants.{Dir}
 use Rattle.entry_tree.specs.declared.tree_error.TreeError.{TreeError}
@@ -38,9 +38,9 @@ use Rattle.mode_rules.specs.PointLaws.{line_path}
 use Rattle.mode_rules.specs.Trees.{Trees, paths_of, is_point, holds_folder, is_blocked, same_there}
 use Rattle.mode_rules.specs.Verdicts.{comparison, verdict}
 use Rattle.mode_rules.proofs.After.{any_kept}
-use Rattle.mode_rules.proofs.Below.{under_both, under_through, below_is_under, folders, Decider}
+use Rattle.mode_rules.proofs.Below.{under_through, below_is_under, folders, Decider}
 use Rattle.mode_rules.proofs.Cases.{agreed_is, folder_there, same_is}
-use Rattle.mode_rules.proofs.Deciding.{IsAmong, Over, each_among, paths_sorted, folder_agrees, among_above, clear_above, one_point, decider_is_point}
+use Rattle.mode_rules.proofs.Deciding.{IsAmong, each_among, paths_sorted, folder_agrees, among_above, clear_above, one_point, decider_is_point}
 use Rattle.mode_rules.proofs.Folding.{touches_line, given, GivesLine, with_lines-append, fold_closed, fold_tracked, fold_kept, fold_given}
 use Rattle.mode_rules.proofs.ListLaws.{kept_in}
 use Rattle.mode_rules.proofs.PlanPaths.{line_there, folder_line, agreed_line}

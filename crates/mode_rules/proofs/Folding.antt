@@ -7,7 +7,7 @@ use Rattle.std.specs.Ordering.{eq_by_cmp}
 use Rattle.finite_maps.proofs.Constructors.{none_is_not_some, some_same}
 use Rattle.sync_path.specs.Path.{path_cmp, is_under, is_below}
 use Rattle.entry_tree.specs.Atom.{is_dir, is_tracked}
-use Rattle.entry_tree.specs.Tree.{Names, ByPath, IsClosed, at_parent, refusal, set_at, without_under}
+use Rattle.entry_tree.specs.Tree.{Names, ByPath, IsClosed, at_parent, refusal, set_at}
 use Rattle.entry_tree.specs.declared.atom.Atom.{Atom}
 use Rattle.entry_tree.specs.declared.tree_error.TreeError.{TreeError}
 use Rattle.entry_tree.proofs.Maps.{alike}

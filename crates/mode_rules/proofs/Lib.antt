@@ -9,6 +9,7 @@ pub mod Held
 pub mod Licences
 pub mod ListLaws
 pub mod Meeting
+pub mod Nothing
 pub mod PathKeys
 pub mod PathSets
 pub mod PlanLaws

@@ -14,7 +14,6 @@ use Rattle.entry_tree.specs.declared.atom.Atom.{Atom}
 use Rattle.entry_tree.specs.declared.side.Side.{Side}
 use Rattle.entry_tree.specs.declared.side.Side.TheVariants.{Alpha, Beta}
 use Rattle.entry_tree.proofs.Paths.{path_same, under_itself}
-use Rattle.mode_rules.specs.declared.ancestor_line.AncestorLine.{AncestorLine}
 use Rattle.mode_rules.specs.declared.change.Change.{Change}
 use Rattle.mode_rules.specs.declared.comparing.Comparison.{Comparison}
 use Rattle.mode_rules.specs.declared.conflict.Conflict.{Conflict}
@@ -22,15 +21,14 @@ use Rattle.mode_rules.specs.declared.mode.Mode.{Mode}
 use Rattle.mode_rules.specs.declared.mode.Mode.TheVariants.{TwoWaySafe, TwoWayResolved, OneWaySafe, OneWayReplica}
 use Rattle.mode_rules.specs.declared.verdict.Verdict.{Verdict}
 use Rattle.mode_rules.specs.declared.verdict.Verdict.TheVariants as verdicts
-use Rattle.mode_rules.specs.AncestorFold.{with_lines}
 use Rattle.mode_rules.specs.ChangeLaws.{AreClosed}
-use Rattle.mode_rules.specs.Laws.{AreTracked, HoldsOnlyTracked, MakesSidesMeet, is_of, after}
-use Rattle.mode_rules.specs.PointLaws.{SidesMeetAt, IsLeft, MeetsAtPoints, MeetsAtChanges, LeavesConflicts, is_decided_at, meets}
+use Rattle.mode_rules.specs.Laws.{HoldsOnlyTracked, MakesSidesMeet, is_of, after}
+use Rattle.mode_rules.specs.PointLaws.{SidesMeetAt, IsLeft, is_decided_at, meets}
 use Rattle.mode_rules.specs.Trees.{Trees, paths_of, is_point, is_blocked, holds_folder}
 use Rattle.mode_rules.specs.Verdicts.{by_mode, comparison, first_case, verdict}
-use Rattle.mode_rules.specs.Plans.{points_of, change_at, change_by, line_at, conflict_at, conflict_by, plan_of}
+use Rattle.mode_rules.specs.Plans.{points_of, change_at, change_by, conflict_at, conflict_by, plan_of}
 use Rattle.mode_rules.proofs.After.{get-subtree, touches, Gives, after_kept, after_given, any_kept}
-use Rattle.mode_rules.proofs.Agreeing.{lines_in, lines_give}
+use Rattle.mode_rules.proofs.Agreeing.{lines_give}
 use Rattle.mode_rules.proofs.Below.{under_both, one_is_under, folder_above, folders, Decider, decider}
 use Rattle.mode_rules.proofs.Cases.{by_case, one_holds, less_is}
 use Rattle.mode_rules.proofs.Changing.{nothing_under}

@@ -9,3 +9,4 @@ pub mod Laws
 pub mod ChangeLaws
 pub mod PointLaws
 pub mod AgreedLaws
+pub mod NothingLeft

@@ -2,6 +2,7 @@
 ghost use Rattle.mode_rules.specs.Laws.{TakesNothingElse, TakesNothingElseOfAlpha, ChangesBetaAlone, LeavesEqualSides, MakesSidesMeet, TreatsSidesAlike};
 ghost use Rattle.mode_rules.specs.ChangeLaws.{TakesFromOthers, ReplacesOnlyOthers, AreLicensed, AreLicensedOfAlpha};
 ghost use Rattle.mode_rules.specs.AgreedLaws.{KeepsAncestor};
+ghost use Rattle.mode_rules.specs.NothingLeft.{LeavesNothing};
 ghost use Rattle.mode_rules.specs.PointLaws.{KeepsApart, LeavesConflicts, MeetsAtChanges, MeetsAtPoints};
 ghost use Rattle.mode_rules.specs.declared.mode.Mode.{Mode};
 
@@ -82,4 +83,10 @@ pub fn conflicts_are_left()
 pub fn sides_meet_point_by_point()
     ensures at_changes { (mode : Mode) → MeetsAtChanges mode }
     ensures at_points { (mode : Mode) → MeetsAtPoints mode }
+{}
+
+/// Where both sides hold what the ancestor holds, with what is untracked read as nothing, there is nothing to do in any mode: no change, no line, no conflict and no
+/// halt.
+pub fn nothing_is_left_to_do()
+    ensures { (mode : Mode) → LeavesNothing mode }
 {}
