@@ -10,7 +10,7 @@ ROOT = pathlib.Path(__file__).resolve().parent.parent
 # The floors of docs/ARCHITECTURE.md, the highest first.
 FLOORS = [
     ("programs", ["sync_cli"]),
-    ("tests", ["script_tests", "plan_tests", "roots_tests"]),
+    ("tests", ["script_tests", "plan_tests", "roots_tests", "link_tests"]),
     ("runs", ["script_engine"]),
     ("cycles", ["reconcile"]),
     ("roots", ["mem_roots", "root_laws"]),
