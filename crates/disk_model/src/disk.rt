@@ -1,4 +1,4 @@
-// What a disk is.
+//! What a disk is.
 ghost use Rattle.std.specs.Prelude.{◌≡◌, ℕ, ◌+◌, ◌^◌, ◌<◌, ◌≤◌, List, length, IfOk, OnOk, OnErr};
 ghost use Rattle.fault_count.specs.Rose.{Rose};
 ghost use Rattle.disk_model.specs.Content.{Content, write_change, cut_change};

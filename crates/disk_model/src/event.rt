@@ -1,4 +1,4 @@
-// What happened to a disk in memory.
+//! What happened to a disk in memory.
 ghost use Rattle.std.specs.Prelude.{◌≡◌, ◌+◌, ◌-◌, ◌^◌, ◌<◌, ◌≤◌, ◌++◌, length, take, drop, replicate, OnOk, OnErr};
 ghost use Rattle.disk_model.specs.Content.{written_over};
 

@@ -1,4 +1,4 @@
-// A file of the system as a disk.
+//! A file of the system as a disk.
 ghost use Rattle.std.specs.Prelude.{◌≡◌, ℕ, ◌+◌, ◌^◌, ◌<◌, ◌≤◌, [], length, IfOk, OnOk, OnErr, IsErr};
 ghost use Rattle.fault_count.specs.Rose.{Rose};
 ghost use Rattle.disk_model.specs.Disk.{calls_after};

@@ -5,6 +5,17 @@
 //! leave: until a sync succeeds, what was written may be torn and what was cut may be back.
 //! `MemDisk` is such a disk in memory, which fails or stops at the calls that it is told to, and
 //! `FileDisk` is a file of the system, which tells no content.
+//!
+//! ```rust
+//! let mut disk = MemDisk::new(alloc, Vec::from_slice(alloc, b"abcdef")?, &[], None)?;
+//! disk.write_at(2, b"XY")?;
+//! disk.cut(5)?;
+//! disk.write_at(7, b"z")?;
+//! disk.sync()?;
+//! assert_eq!(rt; disk.bytes(), b"abXYe\0\0z".as_slice());
+//! ```
+//!
+//! The test `what_is_written_is_read` makes these calls.
 #![tactic(auto)]
 
 mod disk;

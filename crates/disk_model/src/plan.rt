@@ -1,4 +1,4 @@
-// Which calls of a disk in memory fail.
+//! Which calls of a disk in memory fail.
 ghost use Rattle.std.specs.Prelude.{◌≡◌, ℕ, Option, IfOk};
 ghost use Rattle.disk_model.specs.Plan.{fate_of, fate_at, fate_in, after_call};
 

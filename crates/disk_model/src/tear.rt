@@ -1,4 +1,4 @@
-// What a crash makes of a disk in memory.
+//! What a crash makes of a disk in memory.
 ghost use Rattle.std.specs.Prelude.{◌≡◌, ℕ, ◌+◌, ◌≤◌, length, min, OnOk};
 ghost use Rattle.disk_model.specs.Content.{TornWrite, TornCut};
 ghost use Rattle.disk_model.specs.Replay.{TearsEvent};

@@ -1,3 +1,4 @@
+//! Tests of what no clause says: calls of disks in memory, what crashes leave, calls that fail by number, the limit, and a file of the system.
 use super::*;
 use std::alloc::Global;
 use std::fs;

@@ -3,6 +3,14 @@
 //! Whatever speaks with the outside keeps a count of its faults, which never falls. A call may
 //! answer that it failed only where the count rose in it. This crate has the word for that,
 //! `Rose` of `specs/Rose.antt`, and the step of an adapter's count.
+//!
+//! ```rust
+//! let mut count = 41;
+//! count_fault(&mut count);
+//! assert_eq!(rt; count, 42);
+//! ```
+//!
+//! The test `counts_and_stays_at_the_end` makes this call.
 #![tactic(auto)]
 
 ghost use Rattle.std.specs.Prelude.{◌≡◌, ℕ, ◌+◌, ◌-◌, ◌^◌, ◌≤◌, min};

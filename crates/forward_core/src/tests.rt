@@ -1,3 +1,4 @@
+//! Tests of what no clause says: runs of sessions that are paused, cut and resumed.
 use super::*;
 use mux_core::ReadAnswer;
 use mux_link::Side2::{Far, Near};

@@ -1,4 +1,4 @@
-// Why a journal refuses.
+//! Why a journal refuses.
 ghost use Rattle.std.specs.Prelude.{◌≡◌};
 ghost use Rattle.frame_journal.specs.declared.error.OpenError.TheVariants as opening;
 ghost use Rattle.frame_journal.specs.declared.error.AppendError.TheVariants as appending;

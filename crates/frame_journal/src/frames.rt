@@ -1,4 +1,4 @@
-// Frames as they are read from a disk.
+//! Frames as they are read from a disk.
 ghost use Rattle.std.specs.Prelude.{◌≡◌, ℕ, ◌+◌, ◌^◌, ◌<◌, ◌≤◌, List, [], length, take, drop, IfOk, IfErr, IfSome, IsSomeAnd, OnErr, IsErrOf, ◌≢◌};
 ghost use Rattle.std.specs.Int.{w64, from_be_bytes, to_be_bytes};
 ghost use Rattle.fault_count.specs.Rose.{Rose};

@@ -1,4 +1,4 @@
-// A disk is made ready for appends.
+//! A disk is made ready for appends.
 ghost use Rattle.std.specs.Prelude.{◌≡◌, ◌≢◌, ℕ, ◌+◌, ◌^◌, ◌<◌, ◌≤◌, List, IfOk, IfErr, IsErrOf};
 ghost use Rattle.fault_count.specs.Rose.{Rose};
 ghost use Rattle.disk_model.specs.Disk.{OnTold, Syncs};

@@ -1,4 +1,4 @@
-// How a journal stands with its disk.
+//! How a journal stands with its disk.
 ghost use Rattle.std.specs.Prelude.{◌≡◌, ◌≢◌, ◌↔◌, ℕ, ◌+◌, ◌^◌, ◌<◌, ◌≤◌, List, [], IsTrue, IfOk, IfErr, OnOk, OnErr, IsErrOf, true};
 ghost use Rattle.fault_count.specs.Rose.{Rose};
 ghost use Rattle.disk_model.specs.Disk.{OnTold};

@@ -1,3 +1,4 @@
+//! Tests of what no clause says: the bytes of a frame, stops at each call, cut journals, refused frames, and a file of the system.
 use super::*;
 use disk_model::{Disk, FileDisk, MemDisk, Tear};
 use std::alloc::{AllocError, Global};

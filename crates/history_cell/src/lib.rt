@@ -6,6 +6,16 @@
 //!
 //! The cell is a ticket lock over the kit's `atomic_table`: a word that counts the tickets drawn, a word that counts
 //! the tickets served, and a slot that holds the object.
+//!
+//! ```rust
+//! // `Counter` is an object that keeps a count.
+//! let (cell, mut pass) = HistoryCell::new(alloc, Counter { count: 9 })?;
+//! let other = cell.split(&mut pass); // for another thread, which takes it along
+//! cell.join(&mut pass, other);
+//! assert!(rt; matches!(cell.close(pass), Ok(Counter { count: 9 })));
+//! ```
+//!
+//! The test `a_new_cell_gives_its_object_back` makes these calls, and `two_threads_count_to_two_thousand` calls the object.
 #![tactic(auto)]
 
 mod answer;

@@ -7,6 +7,15 @@
 //! [`Pattern::matches`] answers whether a path matches. It takes no memory, and no pattern is exponential.
 //!
 //! No call hands out a [`Part`], a [`Glob`] or a [`Piece`]. They are public since contracts say what a pattern means by them.
+//!
+//! ```rust
+//! let pattern = Pattern::read(alloc, "a/**/b")?;
+//! let path = Path::read(alloc, "a/x/y/b")?;
+//! let is_dir = false;
+//! assert!(rt; pattern.matches(&path, is_dir));
+//! ```
+//!
+//! The test `which_paths_match` makes these calls.
 #![tactic(auto)]
 
 mod fault;

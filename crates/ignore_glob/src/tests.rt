@@ -1,3 +1,4 @@
+//! Tests of what no clause says: the places of bad bytes, which paths match, and that no pattern is exponential.
 use crate::{Pattern, PatternError};
 use std::alloc::{AllocError, Global};
 use std::test::Fail;

@@ -2,6 +2,19 @@
 //!
 //! [`Rules::read`] reads the patterns' texts, and names the first that is no pattern. [`Rules::decide`]
 //! answers whether a path is ignored. It takes no memory.
+//!
+//! ```rust
+//! let mut texts = Vec::new(alloc);
+//! for text in ["*.o", "!keep.o", "/build/"] {
+//!     texts.push(String::from_str(alloc, text)?)?;
+//! }
+//! let rules = Rules::read(alloc, &texts, false)?;
+//! let path = Path::read(alloc, "x/keep.o")?;
+//! let is_dir = false;
+//! assert!(rt; !rules.decide(&path, is_dir));
+//! ```
+//!
+//! The test `the_last_pattern_that_matches_decides` makes these calls.
 #![tactic(auto)]
 
 mod rule_error;

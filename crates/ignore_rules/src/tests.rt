@@ -1,3 +1,4 @@
+//! Tests of what no clause says: which pattern decides, the patterns of version control, and the first bad text.
 use crate::{BadRule, MAX_RULES, RuleError, Rules};
 use std::alloc::{AllocError, Global};
 use std::test::Fail;

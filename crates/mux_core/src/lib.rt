@@ -6,6 +6,18 @@
 //! credit allows, and each read gives credit back by a Window frame. Contracts see an end as the
 //! record `End`, and each call is one step of it, a function in `specs/`. What holds of two ends that
 //! are joined, whatever happens to them, is in `laws`.
+//!
+//! ```rust
+//! let near = true;
+//! let mut end = MuxEnd::new(alloc, near);
+//! let stream = end.open_stream()?; // 1
+//! let open = end.outgoing(5)?; // the frame that opens the stream
+//! let bytes = vec![in alloc; 120u8; 65_536]?;
+//! let count = end.write(stream, &bytes)?; // 65,536: all of the credit
+//! let data = end.outgoing(100_000)?; // four Data frames, 65,564 bytes
+//! ```
+//!
+//! The test `no_more_is_written_or_opened_than_is_allowed` makes these calls.
 #![tactic(auto)]
 
 mod answer;

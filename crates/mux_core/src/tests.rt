@@ -1,3 +1,4 @@
+//! Tests of what no clause says: the limits of writes and opens, frames that come, and how streams end.
 use super::*;
 use mux_frames::FrameReader;
 use std::alloc::Global;

@@ -5,6 +5,15 @@
 //! `write_frame` gives a frame's one spelling. A `FrameReader` takes the bytes of a connection in
 //! pieces of any size and answers the frames that each piece completes. Where no frame continues the
 //! bytes so far, it answers the place of the first byte that is wrong.
+//!
+//! ```rust
+//! let mut reader = FrameReader::new();
+//! let frames = reader.feed(alloc, &[7, 0, 0, 0, 0])?; // a Heartbeat
+//! let want = Some(FeedError::BadFrame { place: 5 });
+//! assert!(rt; reader.feed(alloc, &[9]).err() == want);
+//! ```
+//!
+//! The test `a_bad_byte_is_found_at_its_place_and_the_answer_stays` makes these calls, a byte at a time.
 #![tactic(auto)]
 
 mod batch;

@@ -1,3 +1,4 @@
+//! Tests of what no clause says: the bytes of each kind of frame, readings of cut streams, and the places of bad bytes.
 ghost use Rattle.std.specs.Prelude.{◌<◌};
 
 use super::*;

@@ -5,6 +5,17 @@
 //! at one end to the other, or a cut. Contracts see the world of `mux_core`, and each step is a step of
 //! that world, so its law holds of every list of steps (`laws`). In it no end refuses a frame of the
 //! other and no reader its bytes, so a `LinkReply` has no word for that.
+//!
+//! ```rust
+//! let mut pair = MuxPair::new(alloc);
+//! let opened = pair.step(LinkOp::OpenStream); // LinkReply::Opened(1)
+//! let bytes = LinkBytes::new(vec![in alloc; b'x'; 100_000]?);
+//! let wrote = pair.step(LinkOp::Write(Side2::Near, 1, bytes)); // LinkReply::Wrote(65_536)
+//! let moved = pair.step(LinkOp::Move(Side2::Near, 70_000)); // LinkReply::Moved(65_569)
+//! let read = pair.step(LinkOp::Read(Side2::Far, 1, 16_384)); // LinkReply::Read of 16,384 bytes
+//! ```
+//!
+//! The test `each_step_answers_as_it_should` makes these calls.
 #![tactic(auto)]
 
 mod calls;

@@ -1,3 +1,4 @@
+//! Tests of what no clause says: runs of credit and ends, and whole frames at a reader of a link that is cut.
 use super::*;
 use crate::side::Side2::{Far, Near};
 use mux_core::ReadAnswer;

@@ -1,4 +1,4 @@
-// Which calls of an object in memory are to fail.
+//! Which calls of an object in memory are to fail.
 ghost use Rattle.std.specs.Prelude.{◌≡◌, ◌↔◌, ℕ, IfOk, IsTrue};
 ghost use Rattle.outside_io.specs.Calls.{IsToFail, after_call};
 

@@ -1,4 +1,4 @@
-// Dice that count.
+//! Dice that count.
 ghost use Rattle.std.specs.Prelude.{◌≡◌, ◌+◌, ◌≤◌, ◌%◌, ◌^◌, Some, Ok, OnErr};
 ghost use Rattle.std.specs.Int.{to_be_bytes};
 ghost use Rattle.fault_count.specs.Rose.{Rose};

@@ -1,4 +1,4 @@
-// What random bytes come from.
+//! What random bytes come from.
 ghost use Rattle.std.specs.Prelude.{ℕ, ◌≤◌, List, Option, OnErr};
 ghost use Rattle.fault_count.specs.Rose.{Rose};
 ghost use Rattle.outside_io.specs.Draws.{Draws, Left};

@@ -1,4 +1,4 @@
-// Identifiers of sixteen drawn bytes.
+//! Identifiers of sixteen drawn bytes.
 ghost use Rattle.std.specs.Prelude.{◌≡◌};
 ghost use Rattle.outside_io.specs.Identifiers.{identifier};
 

@@ -1,4 +1,4 @@
-// The line in hand, and the bytes behind it.
+//! The line in hand, and the bytes behind it.
 ghost use Rattle.std.specs.Prelude.{◌≡◌, ℕ, ◌+◌, ◌<◌, ◌≤◌, ◌↔◌, ◌⊎◌, List, [], ◌++◌, Option, length, take, drop, slice_index, vec_len, MatchResult, MatchOption, IfOk, IfSome, OnOk, OnErr, IsErrOf, Contains, None};
 ghost use Rattle.std.specs.Io.KnownBytes.{Consumes, IsAtEnd, Keeps};
 ghost use Rattle.std.specs.Str.Lines.{strip_carriage_return};

@@ -4,6 +4,19 @@
 //! a count of faults that never falls. What an object still has to give, or has taken, is told to contracts where its type knows
 //! it (those in memory always do, and so do dice that count), and is left open where it doesn't. `LineReader` makes lines of a
 //! source's bytes, `send` writes a whole piece, and `make_identifier` makes an identifier of drawn bytes.
+//!
+//! ```rust
+//! let mut pieces = Vec::new(alloc);
+//! pieces.push(Vec::from_slice(alloc, b"one\r\ntw")?)?;
+//! pieces.push(Vec::from_slice(alloc, b"o\n")?)?;
+//! let mut source = MemSource::new(alloc, pieces, &[])?;
+//! let mut reader = LineReader::new(alloc);
+//! let first = reader.next(alloc, &mut source)?; // the full line `one`
+//! let second = reader.next(alloc, &mut source)?; // the full line `two`
+//! let end = reader.next(alloc, &mut source)?; // None
+//! ```
+//!
+//! The test `lines_however_the_input_is_cut` makes these calls.
 #![tactic(auto)]
 
 mod calls;

@@ -1,4 +1,4 @@
-// Lines, and why there is none.
+//! Lines, and why there is none.
 ghost use Rattle.std.specs.Prelude.{◌≡◌};
 ghost use Rattle.outside_io.specs.declared.line.LineFault.TheVariants.{Memory};
 

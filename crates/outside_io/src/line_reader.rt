@@ -1,4 +1,4 @@
-// Lines from a source's bytes.
+//! Lines from a source's bytes.
 ghost use Rattle.std.specs.Prelude.{◌≡◌, ℕ, ◌+◌, ◌-◌, ◌<◌, ◌≤◌, ◌⊎◌, List, [], Option, length, Contains, IfOk, IfSome, IsErrOf, Some, None};
 ghost use Rattle.std.specs.Io.KnownBytes.{IsAtEnd, Keeps};
 ghost use Rattle.fault_count.specs.Rose.{Rose};

@@ -1,4 +1,4 @@
-// Dice in memory.
+//! Dice in memory.
 ghost use Rattle.std.specs.Prelude.{◌≡◌, ◌↔◌, ◌⊎◌, ◌+◌, ◌≤◌, ◌∷◌, Some, [], min, IfOk, OnOk, OnErr, IsErr};
 ghost use Rattle.fault_count.specs.Rose.{Rose};
 ghost use Rattle.outside_io.specs.Calls.{IsToFail, after_call};

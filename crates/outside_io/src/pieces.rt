@@ -1,4 +1,4 @@
-// Bytes in pieces, read from the front.
+//! Bytes in pieces, read from the front.
 ghost use Rattle.std.specs.Prelude.{◌≡◌, ℕ, ◌++◌, ◌≤◌, length, map, min, take, drop};
 ghost use Rattle.outside_io.specs.MemInput.{HasNoEmpty, after_taking, first_piece};
 

@@ -1,4 +1,4 @@
-// The bytes that were read and not used yet.
+//! The bytes that were read and not used yet.
 ghost use Rattle.std.specs.Prelude.{◌≡◌, ℕ, ◌+◌, ◌<◌, ◌≤◌, [], length, take, drop, slice_index, vec_len, MatchResult, MatchOption, IfOk, OnOk, OnErr};
 ghost use Rattle.std.specs.Io.KnownBytes.{Consumes, IsAtEnd, Keeps};
 ghost use Rattle.fault_count.specs.Rose.{Rose};

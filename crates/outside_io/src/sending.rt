@@ -1,4 +1,4 @@
-// A whole piece to a sink.
+//! A whole piece to a sink.
 ghost use Rattle.std.specs.Prelude.{◌≡◌, ℕ, ◌<◌, ◌≤◌, length, take, [], IsOk, OnOk, OnErr};
 ghost use Rattle.std.specs.Io.KnownBytes.{Appends};
 ghost use Rattle.fault_count.specs.Rose.{Rose};

@@ -1,4 +1,4 @@
-// Where bytes go.
+//! Where bytes go.
 ghost use Rattle.std.specs.Prelude.{ℕ, ◌<◌, ◌≤◌, List, Option, length, IfOk, OnErr};
 ghost use Rattle.std.specs.Io.KnownBytes.{WriteAppends};
 ghost use Rattle.fault_count.specs.Rose.{Rose};

@@ -1,4 +1,4 @@
-// A writer of std as a sink.
+//! A writer of std as a sink.
 ghost use Rattle.std.specs.Prelude.{◌≡◌, ◌+◌, ◌<◌, ◌≤◌, length, min, IfOk, OnErr, OnOk};
 ghost use Rattle.std.specs.Io.KnownBytes.{WriteAppends};
 ghost use Rattle.fault_count.specs.Rose.{Rose};

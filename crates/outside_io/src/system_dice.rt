@@ -1,4 +1,4 @@
-// The machine's random source as dice.
+//! The machine's random source as dice.
 ghost use Rattle.std.specs.Prelude.{◌≡◌, ℕ, ◌+◌, ◌≤◌, None, List, Option, min, OnErr, OnOk};
 ghost use Rattle.fault_count.specs.Rose.{Rose};
 ghost use Rattle.outside_io.specs.Draws.{Draws, Left};

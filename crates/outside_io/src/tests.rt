@@ -1,3 +1,4 @@
+//! Tests of what no clause says: lines of cut inputs, faults of reads and writes, adapters, dice, ticks and identifiers.
 ghost use Rattle.std.specs.Prelude.{map, IfOk, OnErr, OnOk};
 ghost use Rattle.outside_io.specs.MemInput.{HasNoEmpty};
 

@@ -1,4 +1,4 @@
-// What moments come from.
+//! What moments come from.
 ghost use Rattle.std.specs.Prelude.{ℕ, ◌≤◌, Option, OnErr};
 ghost use Rattle.fault_count.specs.Rose.{Rose};
 ghost use Rattle.outside_io.specs.Draws.{Draws, Left};

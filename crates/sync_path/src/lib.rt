@@ -7,6 +7,14 @@
 //! A [`Path`] is a list of at most 64 names whose text has at most 4,096 bytes, and the root has none. Contracts see
 //! a path as the list of its names (`specs/Path.antt`). A `BTreeMap<Path, V>` has its entries in path order, in which
 //! what lies at and below a path stands together.
+//!
+//! ```rust
+//! let path = Path::read(alloc, "a/b")?;
+//! let child = path.child(alloc, &Name::read(alloc, "c")?)?;
+//! assert_eq!(rt; child.write(alloc)?.as_str(), "a/b/c");
+//! ```
+//!
+//! The test `a_child_and_its_parent` makes these calls.
 #![tactic(auto)]
 
 pub mod laws;

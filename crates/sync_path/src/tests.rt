@@ -1,3 +1,4 @@
+//! Tests of what no clause says: which texts are names, how long a name is, and the order of names in a map.
 ghost use Rattle.std.specs.Prelude.{◌≡◌};
 ghost use Rattle.std.specs.BTreeMap.{get};
 ghost use Rattle.std.specs.Cmp.Lexicographic.{slice_cmp};

@@ -4,6 +4,17 @@
 //! only where no call has come since the worker looked, so no call falls between the last look
 //! and the putting away. The decisions are made by `IdleRows`, which has no handle; the book is
 //! a lock round it. The queue tells each pass a history of pushes and pops, first in, first out.
+//!
+//! ```rust
+//! // `one` and `two` are tasks with the identity 7.
+//! let mut rows = IdleRows::new(alloc);
+//! let is_new = rows.enter(7)?; // true
+//! let none = rows.call(7); // None: no task is put away there
+//! let back = rows.put(one, 0); // the task again: a call has come since the count was 0
+//! let away = rows.put(two, 1); // None: the task is put away
+//! ```
+//!
+//! The test `the_rows_answer` makes these calls.
 #![tactic(auto)]
 
 mod gate;

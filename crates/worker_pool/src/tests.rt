@@ -1,3 +1,4 @@
+//! Tests of what no clause says: tasks that are called, what the rows answer, and a full queue.
 ghost use Rattle.worker_pool.specs.ReadyPass.{BelongsTo};
 
 use super::*;

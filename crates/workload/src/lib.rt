@@ -2,6 +2,14 @@
 //! resumed.
 //!
 //! [`make`] writes it for a salt, which the files' contents begin with, and a number of files. `specs/Script.antt` has its text.
+//!
+//! ```rust
+//! let salt = 7;
+//! let files = 1;
+//! let script = make(alloc, salt, files)?; // begins with the line `edit A dir d0000`
+//! ```
+//!
+//! The test `short_scripts` makes this call.
 #![tactic(auto)]
 
 mod pieces;

@@ -1,3 +1,4 @@
+//! Tests of what no clause says: short scripts written out by hand, counts of lines and bytes, and the greatest salt.
 use crate::make;
 use std::test::Fail;
 

@@ -1,4 +1,4 @@
-// Paths: which texts are read, and where the others are bad; their order; a child and its parent.
+//! Paths: which texts are read, and where the others are bad; their order; a child and its parent.
 use super::repeated;
 use crate::{Name, Path, PathError};
 use std::alloc::{AllocError, Global};
