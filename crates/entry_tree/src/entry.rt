@@ -10,10 +10,7 @@ use std::alloc::{AllocError, Global};
 #[derive(Clone, Copy, Debug, PartialEq, Eq)]
 pub struct Stamp(pub u128);
 
-///! What a root holds at a path.
-ghost use Rattle.std.specs.Prelude.{◌≡◌};
-ghost use Rattle.entry_tree.specs.Entry.{is_tracked};
-
+/// What a root holds at a path.
 #[derive(Debug, Drop, PartialEq, Eq)]
 pub enum Entry {
     /// A folder.

@@ -4,6 +4,13 @@
 //! [`text_of`] spells an atom as it stands in replies and kept frames, and [`read_atom`] reads just that: `specs/AtomText.antt` has the
 //! words of each. A path's word is its text, and `.` for the root ([`write_path`], [`read_path`]).
 //! A [`Tree`] is a map from paths to atoms in which each parent is a folder. Contracts see a digest and a text as their bytes.
+//!
+//! ```rust
+//! let atom = read_atom(alloc, "link =a%20b")?;
+//! assert_eq!(rt; text_of(alloc, &atom)?.as_str(), "link =a%20b");
+//! ```
+//!
+//! The test `a_text_is_an_atom_or_bad_at_one_place` makes these calls.
 #![tactic(auto)]
 
 mod atom;

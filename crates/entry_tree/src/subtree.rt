@@ -1,4 +1,4 @@
-// Subtrees.
+//! Subtrees: the entries of a tree at and below one path.
 ghost use Rattle.std.specs.Prelude.{◌≡◌, ◌↔◌, IsTrue, IfOk};
 ghost use Rattle.std.specs.FinMap as map;
 ghost use Rattle.std.specs.Option.{option_copied};

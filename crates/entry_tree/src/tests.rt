@@ -1,3 +1,4 @@
+//! Tests of what no clause says: digests of the standard, spellings of atoms, bad places, lengths of texts, and the words of paths.
 use crate::{
     Atom, AtomError, Digest, PieceHasher, ProblemKind, Text, TextError, read_atom, read_path,
     text_of, write_path,

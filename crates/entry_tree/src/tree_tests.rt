@@ -1,3 +1,4 @@
+//! Tests of what no clause says: what folders hold, the order of walks, removals, subtrees, children, and entries in trees.
 use crate::{Atom, Digest, Entry, Node, Side, Stamp, Subtree, Text, Tree, TreeError, TreeOf};
 use std::alloc::{AllocError, Global};
 use std::test::Fail;

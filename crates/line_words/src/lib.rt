@@ -5,6 +5,15 @@
 //! words. [`Words`] reads a line word by word, with the byte at which each begins: freely, as people type, or only what a writer
 //! writes ([`Reading`]). Numbers stand in decimal, without signs and leading zeros; a byte is two hexadecimal digits.
 //! The laws that join writing and reading are in [`laws`].
+//!
+//! ```rust
+//! let mut words = Words::new(Reading::Free, b"sync list");
+//! let first = words.next(alloc)?; // the word `sync`, at byte 0
+//! let second = words.next(alloc)?; // the word `list`, at byte 5
+//! let end = words.next(alloc)?; // None
+//! ```
+//!
+//! The test `lines_are_read_in_two_ways` makes these calls.
 #![tactic(auto)]
 
 mod byte;

@@ -1,3 +1,4 @@
+//! Tests of what no clause says: lines read in both ways, escaped words, numbers and bytes.
 use crate::{
     Reading, WordError, Words, read_byte, read_number, read_u32, read_usize, write_next_word,
     write_word,

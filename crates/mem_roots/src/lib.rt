@@ -6,6 +6,17 @@
 //! `specs/MemRoot.antt` say what it answers and what it makes of the root; `specs/Runs.antt` says it of whole runs.
 //!
 //! [`MemRoots`] are eight of them, with the names A to H.
+//!
+//! ```rust
+//! let mut roots = MemRoots::eight(alloc)?;
+//! let root = roots.find("H").ok_or("no root")?;
+//! let path = Path::read(alloc, "f")?;
+//! let bytes = Content::of(alloc, b"abc")?;
+//! roots.edit(alloc, root, &Edit::Put { path, bytes })?;
+//! let tree = roots.view(alloc, root)?; // a file stands at `f`
+//! ```
+//!
+//! The test `eight_roots_are_apart` of `roots_tests` makes these calls.
 #![tactic(auto)]
 
 mod checks;

@@ -2,6 +2,14 @@
 //!
 //! [`settle`] gives the whole plan, path by path, as the table in `specs/Plans.antt` says it: plain and slow. `reconcile`, in
 //! a crate of its own, gives the same in one walk, by the parts that stand here.
+//!
+//! ```rust
+//! // Alpha changed the file `a` of the ancestor, and beta the file `b`.
+//! let plan = settle(alloc, Mode::TwoWaySafe, &ancestor, &alpha, &beta)?;
+//! // The plan changes `a` on beta and `b` on alpha, and has no conflict.
+//! ```
+//!
+//! The test `each_case_has_its_plan` of `plan_tests` makes this call with these trees, among others.
 #![tactic(auto)]
 
 mod ancestor_line;

@@ -6,6 +6,15 @@
 //! `specs/Edits.antt` says it of edits, and `specs/Logs.antt` says which logs are legal.
 //!
 //! [`Root`] is one root, [`Roots`] are several with names, and a [`RootLink`] reaches the two roots of one session.
+//!
+//! ```rust
+//! let mut stamps = Stamps::new(alloc);
+//! stamps.set(Path::read(alloc, "a/b")?, Stamp(5))?;
+//! let path = Path::read(alloc, "a/b")?;
+//! assert_eq!(rt; stamps.get(&path), Some(Stamp(5)));
+//! ```
+//!
+//! The test `stamps_by_path` makes these calls. The documentation of `mem_roots` shows a root that is edited.
 #![tactic(auto)]
 
 mod answer;

@@ -1,3 +1,4 @@
+//! Tests of what no clause says: leaves, rows and stamps, and copies of operations, edits and answers.
 use crate::{Answer, Content, Edit, FileEntry, Leaf, Op, Room, Rows, Stamps, Tracked};
 use entry_tree::{Digest, Entry, Stamp, Text};
 use std::alloc::Global;

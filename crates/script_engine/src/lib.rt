@@ -3,6 +3,19 @@
 //! `run_script` is the call that the program makes. Its contract says that what it writes is the
 //! replies of a fold over the lines of what it reads (`specs/Script.antt`): each line is read by one
 //! grammar (`specs/Request.antt`), and a flush decides each name by one rule (`specs/Flush.antt`).
+//!
+//! ```rust
+//! let mut words = Vec::new(alloc);
+//! words.push(String::from_str(alloc, "script")?)?;
+//! let mut source = StdSource::new(b"show A".as_slice());
+//! let mut sink = MemSink::new(alloc, &[])?;
+//! let mut roots = FlatRoots::two(alloc);
+//! let status = run_script(alloc, &words, &mut source, &mut sink, &mut roots);
+//! assert_eq!(rt; status.number(), 0);
+//! assert_eq!(rt; sink.bytes(), b"ok show A 1\n  . dir\n".as_slice());
+//! ```
+//!
+//! The test `lines_end_with_newlines_or_with_the_input` of `script_tests` makes these calls.
 #![tactic(auto)]
 
 mod flat_roots;
