@@ -1,20 +1,24 @@
 -- Which words begin an atom, and how a reader goes on behind some words.
-use Rattle.std.proofs.Common.{◌≡◌, ℕ, ◌<◌, Bool, true, false, cond, List, [], ◌∷◌, ◌++◌, get_or, codes, bytes_eq, refl, sym, ap, subst, ◌∙◌, append_assoc, Option, Some, None, Result, Ok, Err, map, replicate, lit<, inl, inr, zero, suc}
-use Rattle.std.specs.Prelude.{◌&&◌, ◌⊎◌}
+use Rattle.std.proofs.Common.{◌≡◌, ℕ, ◌<◌, Bool, true, false, cond, List, [], ◌∷◌, ◌++◌, get_or, codes, bytes_eq, refl, sym, ap, subst, ◌∙◌, append_assoc, Option, Some, None, Result, Ok, Err, map, replicate, lit<, length, rules, arith, inl, inr, zero, suc}
+use Rattle.std.specs.Prelude.{◌&&◌, ◌⊎◌, ◌≤◌, ◌*◌}
+use Rattle.std.proofs.Math.Dec.{lit≤}
 use Rattle.std.specs.Fmt.{decimal}
 use Rattle.std.proofs.lemmas.Fmt.{decimal_digit}
 use Rattle.std.proofs.lemmas.List.{append-nil}
 use Rattle.std.specs.Str.{IsAscii}
 use Rattle.std.proofs.lemmas.Str.{is_utf8-from_IsUtf8, IsUtf8-from_ascii}
 use Rattle.hex.specs.Hex.{IsBytes, encode_lower}
+use Rattle.hex.proofs.HexLemmas.{length-encode_with}
 use Rattle.line_words.specs.Lines.{Item, AreBytes}
+use Rattle.line_words.specs.Steps.{IsTooLong, ReadsInto, Skips}
+use Rattle.line_words.specs.declared.error.BadWord.{BadWord}
 use Rattle.entry_tree.specs.Digest.{is_digest_text}
 use Rattle.entry_tree.specs.ProblemKind.{problem_number, is_problem_text}
-use Rattle.entry_tree.specs.Text.{has_text_len}
+use Rattle.entry_tree.specs.Text.{has_text_len, IsText}
 use Rattle.entry_tree.specs.declared.problem_kind.ProblemKind.{ProblemKind}
 use Rattle.entry_tree.specs.declared.problem_kind.ProblemKind.TheVariants.{Changed, TooLarge, Failed}
 use Rattle.entry_tree.specs.AtomText.{words_of, executable_word, IsAtom, is_link_text, BeginsAtom, NoneGoesOn, StopsAt, GoesWrong}
-use Rattle.entry_tree.specs.AtomReading.{kind_of_word, word_of_kind, Answers, ReadsWord}
+use Rattle.entry_tree.specs.AtomReading.{kind_of_word, word_of_kind, Answers}
 use Rattle.entry_tree.specs.declared.atom.Atom.{Atom}
 use Rattle.entry_tree.specs.declared.atom.Atom.TheVariants as atoms
 use Rattle.entry_tree.specs.declared.atom_error.AtomError.{AtomError}
@@ -178,6 +182,72 @@ bad_bit digits word none b =
 nothing_behind : (atom : Atom) (kind : AtomKind) → kind_of atom ≡ kind → (word : List ℕ) (rest : List (List ℕ)) → behind atom ≡ word ∷ rest → good_behind kind word ≡ false → IsAtom atom → ⊥
 nothing_behind atom kind k word rest e none h = let o : false ≡ true = sym none ∙ good_at atom h kind k word rest e in absurd (cc)
 
+-- ---- how long the words of an atom are
+
+kind_len : (kind : AtomKind) → length (word_of_kind kind) ≤ 9
+kind_len Dir = lit≤ tt
+kind_len File = lit≤ tt
+kind_len Link = lit≤ tt
+kind_len Untracked = lit≤ tt
+kind_len Problem = lit≤ tt
+
+pub short_kind : (word : List ℕ) → BeginsAtom (word ∷ []) → length word ≤ 9
+short_kind word b = subst (λ w. length w ≤ 9) (word_is (kind_of b.atom) word (first_is word [] b).0) (kind_len (kind_of b.atom))
+
+-- the greatest length of the word behind that of a kind
+behind_len : AtomKind → ℕ
+behind_len Dir = 0
+behind_len File = 64
+behind_len Link = 4097
+behind_len Untracked = 0
+behind_len Problem = 1
+
+number_len : (kind : ProblemKind) → length (decimal (problem_number kind)) ≤ 1
+number_len Changed = subst (λ w. length w ≤ 1) (sym (decimal_digit 1 (lit< tt))) (lit≤ tt)
+number_len TooLarge = subst (λ w. length w ≤ 1) (sym (decimal_digit 2 (lit< tt))) (lit≤ tt)
+number_len Failed = subst (λ w. length w ≤ 1) (sym (decimal_digit 3 (lit< tt))) (lit≤ tt)
+
+text_len : (text : List ℕ) → IsText text → length text ≤ 4096
+text_len text h = let parts : (1 ≤ length text) × (length text ≤ 4096) = search rules in parts.1
+
+len_behind : (atom : Atom) → IsAtom atom → (kind : AtomKind) → kind_of atom ≡ kind → (word : List ℕ) (rest : List (List ℕ)) → behind atom ≡ word ∷ rest → length word ≤ behind_len kind
+unfolding kind_of behind behind_len
+len_behind atoms.Dir h kind k word rest e = absurd (cc)
+len_behind (atoms.File digest executable) h kind k word rest e =
+    let same : encode_lower digest ≡ word = cc in
+    let len : length (encode_lower digest) ≡ 2 * length digest = length-encode_with _ digest in
+    let is = h.0 in
+    subst (λ k'. length word ≤ behind_len k') k (subst (λ w. length w ≤ 64) same (omega arith))
+len_behind (atoms.Link text) h kind k word rest e =
+    let same : 61 ∷ text ≡ word = cc in
+    let len = text_len text h.0 in
+    subst (λ k'. length word ≤ behind_len k') k (subst (λ w. length w ≤ 4097) same (omega arith))
+len_behind atoms.Untracked h kind k word rest e = absurd (cc)
+len_behind (atoms.Problem p) h kind k word rest e =
+    let same : decimal (problem_number p) ≡ word = cc in
+    subst (λ k'. length word ≤ behind_len k') k (subst (λ w. length w ≤ 1) same (number_len p))
+
+short_behind : (kind : AtomKind) (word : List ℕ) → BeginsAtom (word_of_kind kind ∷ word ∷ []) → length word ≤ behind_len kind
+short_behind kind word b = let told = after kind (word ∷ []) b in len_behind b.atom b.is_atom kind told.0 word b.rest told.1
+
+pub short_digest : (word : List ℕ) → BeginsAtom (codes "file" ∷ word ∷ []) → length word ≤ 64
+unfolding behind_len
+short_digest word b = short_behind File word b
+
+pub short_link : (word : List ℕ) → BeginsAtom (codes "link" ∷ word ∷ []) → length word ≤ 4097
+unfolding behind_len
+short_link word b = short_behind Link word b
+
+pub short_number : (word : List ℕ) → BeginsAtom (codes "problem" ∷ word ∷ []) → length word ≤ 1
+unfolding behind_len
+short_number word b = short_behind Problem word b
+
+pub short_bit : (digits word : List ℕ) → BeginsAtom (codes "file" ∷ digits ∷ word ∷ []) → length word ≤ 1
+short_bit digits word b =
+    let told = after File (digits ∷ word ∷ []) b in
+    let second = second_at b.atom File told.0 digits word b.rest told.1 in
+    subst (λ w. length w ≤ 1) (sym second.1) (lit≤ tt)
+
 -- with a word more no atom goes on
 pub whole_dir : (word : List ℕ) → BeginsAtom (words_of atoms.Dir ++ word ∷ []) → ⊥
 unfolding good_behind
@@ -312,10 +382,23 @@ module _ (before : List (List ℕ)) (items : List Item) (end : ℕ) where
     stops = (refl, subst (λ ws. NoneGoesOn ws word) (sym (append-nil before)) none);
   }
 
-  -- what `next_word` refuses
-  pub failed : (e : AtomError) (left : List Item) → ReadsWord items (Err e) left → BeginsAtom before → Answers before items end (Err e)
-  failed (Bad bad) left h b = stopped bad.place None left h b tt
-  failed Memory left h b = tt
+  -- what `read_into` refuses of a buffer of `most` bytes, which no word that an atom goes on with exceeds
+  pub refused : (most : ℕ) (bad : BadWord) (room : List ℕ) (left : List Item) → length room ≡ most → ReadsInto items room (Err bad) left
+      → BeginsAtom before → ((word : List ℕ) → BeginsAtom (before ++ word ∷ []) → length word ≤ most) → GoesWrong before items end bad.place
+  refused most bad room left len h b bound = stopped bad.place h.0 left h.2 b (by h.0 h.1)
+    where
+      by : (word : Option (List ℕ)) → IsTooLong (length room) word → NoneGoesOn before word
+      by None long = tt
+      by (Some word) long = λ begins. let most_is = len in let at_most = bound word begins in absurd (omega arith)
+
+  -- what `skip` passes over, where no atom goes on
+  pub passed : (place : ℕ) (left : List Item) → Skips items (Some place) left → BeginsAtom before → ((word : List ℕ) → BeginsAtom (before ++ word ∷ []) → ⊥)
+      → GoesWrong before items end place
+  passed place left h b whole = stopped place h.0 left h.1 b (by h.0)
+    where
+      by : (word : Option (List ℕ)) → NoneGoesOn before word
+      by None = tt
+      by (Some word) = whole word
 
   pub onward : (place : ℕ) (word : List ℕ) (left : List Item) (result : Result Atom AtomError) → items ≡ record { place = place; word = Some word } ∷ left
       → Answers (before ++ word ∷ []) left end result → Answers before items end result
@@ -330,4 +413,5 @@ module _ (before : List (List ℕ)) (items : List Item) (end : ℕ) where
     begun = subst BeginsAtom (append_assoc before (word ∷ []) h.words) h.begun;
     stops = subst (λ ws. StopsAt ws h.rest end bad.place) (append_assoc before (word ∷ []) h.words) h.stops;
   }
-  onward place word left (Err Memory) e h = tt
+  onward place word left (Err Memory) e h =
+      (h.0, word ∷ h.1, h.2, ap (map (λ i. i.word)) e ∙ ap (λ ws. Some word ∷ ws) h.3, h.4 ∙ append_assoc before (word ∷ []) h.1)

@@ -1,7 +1,6 @@
 -- What the steps of the reader of atoms answer.
-use Rattle.std.specs.Prelude.{◌≡◌, ℕ, cond, List, [], ◌∷◌, ◌++◌, codes, bytes_eq, Option, Some, None, Result, Ok, Err}
+use Rattle.std.specs.Prelude.{◌≡◌, ℕ, cond, List, ◌++◌, codes, bytes_eq, Option, Some, None, Result, Ok, Err}
 use Rattle.line_words.specs.Lines.{Item, HasWords}
-use Rattle.line_words.specs.Placed.{Placed}
 use Rattle.entry_tree.specs.AtomText.{words_of, IsAtom, GoesWrong}
 use Rattle.entry_tree.specs.declared.atom.Atom.{Atom}
 use Rattle.entry_tree.specs.declared.atom_kind.AtomKind.{AtomKind}
@@ -30,11 +29,4 @@ word_of_kind Problem = codes "problem"
 abbrev pub Answers : List (List ℕ) → List Item → ℕ → Result Atom AtomError → Type 0
 Answers before items end (Ok atom) = (words : List (List ℕ)) × IsAtom atom × HasWords items words × (words_of atom ≡ before ++ words)
 Answers before items end (Err (Bad bad)) = GoesWrong before items end bad.place
-Answers before items end (Err Memory) = Unit {0}
-
--- what is read of an item that may be a word
-abbrev pub ReadsWord : List Item → Result (Option Placed) AtomError → List Item → Type 0
-ReadsWord items (Ok None) left = items ≡ []
-ReadsWord items (Ok (Some word)) left = items ≡ record { place = word.place; word = Some word.bytes } ∷ left
-ReadsWord items (Err (Bad bad)) left = items ≡ record { place = bad.place; word = None } ∷ left
-ReadsWord items (Err Memory) left = Unit {0}
+Answers before items end (Err Memory) = (atom : Atom) × (words : List (List ℕ)) × IsAtom atom × HasWords items words × (words_of atom ≡ before ++ words)

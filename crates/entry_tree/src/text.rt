@@ -85,7 +85,7 @@ impl Text {
 }
 
 // Whether this makes a text.
-fn is_text(text: &str) -> bool
+pub(crate) fn is_text(text: &str) -> bool
     ensures { result ≡ is_text text.now }
 {
     has_text_len(text)

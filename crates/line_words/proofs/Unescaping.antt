@@ -5,7 +5,9 @@ use Rattle.std.specs.List.{list_all}
 use Rattle.std.specs.Option.{option_map}
 use Rattle.line_words.specs.declared.reading.Reading.{Reading}
 use Rattle.line_words.specs.declared.reading.Reading.TheVariants.{Free, Canonical}
+use Rattle.std.proofs.lemmas.List.{length-append}
 use Rattle.line_words.specs.Spelling.{stands, onto, unescaped, escape_value, percent, word_of}
+use Rattle.line_words.specs.Steps.{IsTooLong}
 
 -- a byte that stands for itself is read first
 pub stands_first : (reading : Reading) (b : ℕ) (bs : List ℕ) → stands reading b ≡ true → unescaped reading (b ∷ bs) ≡ onto (Some b) (unescaped reading bs)
@@ -44,6 +46,15 @@ behind_of bytes word = option_map (λ bs. bytes ++ bs) word
 pub behind_of-push : (bytes : List ℕ) (b : ℕ) (word : Option (List ℕ)) → behind_of bytes (onto (Some b) word) ≡ behind_of (bytes ++ b ∷ []) word
 behind_of-push bytes b None = refl
 behind_of-push bytes b (Some bs) = ap Some (sym (append_assoc bytes (b ∷ []) bs))
+
+pub behind_of-nothing : (word : Option (List ℕ)) → word ≡ behind_of [] word
+behind_of-nothing None = refl
+behind_of-nothing (Some bs) = refl
+
+-- a byte more than a full buffer has
+pub one_more : (most : ℕ) (bytes : List ℕ) (b : ℕ) (word : Option (List ℕ)) → length bytes ≡ most → IsTooLong most (behind_of bytes (onto (Some b) word))
+one_more most bytes b None full = tt
+one_more most bytes b (Some bs) full = let count = length-append bytes (b ∷ bs) in omega arith
 
 both : (a b : Bool) → (a && b) ≡ true → (a ≡ true) × (b ≡ true)
 both true b h = (refl, h)

@@ -1,5 +1,5 @@
 -- What the steps of a reader find.
-use Rattle.std.specs.Prelude.{◌≡◌, ℕ, ◌+◌, ◌-◌, ◌<◌, ◌≤◌, List, [], ◌∷◌, length, drop, suc, Option, Some, None, Result, Ok, Err}
+use Rattle.std.specs.Prelude.{◌≡◌, ℕ, ◌+◌, ◌-◌, ◌<◌, ◌≤◌, List, [], ◌∷◌, length, drop, take, suc, Option, Some, None, Result, Ok, Err}
 use Rattle.std.specs.Global.{Vec}
 use denote.Ref.{Bor}
 use Rattle.line_words.specs.Lines.{Item, items_at, parts_of}
@@ -7,6 +7,8 @@ use Rattle.line_words.specs.Placed.{Placed}
 use Rattle.line_words.specs.Spelling.{onto, unescaped, word_of}
 use Rattle.line_words.specs.declared.error.WordError.{WordError}
 use Rattle.line_words.specs.declared.error.WordError.TheVariants.{Bad, Memory}
+use Rattle.line_words.specs.declared.error.BadWord.{BadWord}
+use Rattle.line_words.specs.declared.filled.Filled.{Filled}
 use Rattle.line_words.specs.declared.part.Part.{Part}
 use Rattle.line_words.specs.declared.reading.Reading.{Reading}
 use Rattle.line_words.specs.declared.word.Held.{Held}
@@ -32,6 +34,27 @@ ReadsPart reading part (Some held) = word_of reading part ≡ Some (bytes_of hel
 abbrev pub Unescapes : Reading → List ℕ → Option (Vec ℕ) → Type 0
 Unescapes reading part None = unescaped reading part ≡ None
 Unescapes reading part (Some bytes) = unescaped reading part ≡ Some bytes.items
+
+-- a buffer of `most` bytes is too short for the word, if there is one
+abbrev pub IsTooLong : ℕ → Option (List ℕ) → Type 0
+IsTooLong most None = Unit {0}
+IsTooLong most (Some word) = most < length word
+
+-- the word stands at the beginning of the buffer and has this length, or there is none, or it's too long for the buffer
+abbrev pub Fits : Option (List ℕ) → List ℕ → Option ℕ → Type 0
+Fits word room None = IsTooLong (length room) word
+Fits word room (Some len) = (len ≤ length room) × (word ≡ Some (take len room))
+
+-- What `read_into` answers of the items that are left, with what stands in the buffer then, and which items are left.
+abbrev pub ReadsInto : List Item → List ℕ → Result (Option Filled) BadWord → List Item → Type 0
+ReadsInto items room (Ok None) left = (items ≡ []) × (left ≡ [])
+ReadsInto items room (Ok (Some filled)) left = (filled.len ≤ length room) × (items ≡ record { place = filled.place; word = Some (take filled.len room) } ∷ left)
+ReadsInto items room (Err bad) left = (word : Option (List ℕ)) × IsTooLong (length room) word × (items ≡ record { place = bad.place; word = word } ∷ left)
+
+-- What `skip` answers of the items that are left, and which are left then.
+abbrev pub Skips : List Item → Option ℕ → List Item → Type 0
+Skips items None left = (items ≡ []) × (left ≡ [])
+Skips items (Some place) left = (word : Option (List ℕ)) × (items ≡ record { place = place; word = word } ∷ left)
 
 -- the first byte that a spelling stands for, and the spelling of the others
 abbrev pub TakesByte : Reading → List ℕ → Option (ℕ × Bor (List ℕ)) → Type 0

@@ -1,7 +1,7 @@
 //! The spelling of bytes: how they are written, and how they are read.
 ghost use Rattle.std.specs.Prelude.{◌≡◌, ◌++◌, ◌∷◌, ◌<◌, ℕ, List, length, IfOk, OnOk, OnErr, string_bytes};
-ghost use Rattle.line_words.specs.Spelling.{space, escaped, spelled, stands, is_plain, upper_digit, upper_value, digit_value, escape_value};
-ghost use Rattle.line_words.specs.Steps.{TakesByte, Unescapes};
+ghost use Rattle.line_words.specs.Spelling.{space, escaped, spelled, unescaped, stands, is_plain, upper_digit, upper_value, digit_value, escape_value};
+ghost use Rattle.line_words.specs.Steps.{Fits, TakesByte, Unescapes};
 
 use crate::byte::{pair_value, unless_plain};
 use crate::reading::Reading;
@@ -137,4 +137,24 @@ pub(crate) fn unescape(
         rest = behind;
     }
     Ok(Some(bytes))
+}
+
+// Writes the bytes that a spelling stands for to the beginning of `room`, and gives their number. None where it's no spelling, or
+// where `room` is too short for them.
+pub(crate) fn unescape_into(reading: Reading, spelling: &[u8], room: &mut [u8]) -> Option<usize>
+    ensures fits { Fits (unescaped reading spelling.now) room.new result }
+    ensures room { length room.new ≡ length room.old }
+{
+    let mut len = 0;
+    let mut rest = spelling;
+    while !rest.is_empty() {
+        let (b, behind) = take_byte(reading, rest)?;
+        if len == room.len() {
+            return None;
+        }
+        room[len] = b;
+        len += 1;
+        rest = behind;
+    }
+    Some(len)
 }

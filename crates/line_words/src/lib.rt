@@ -19,6 +19,7 @@
 mod byte;
 mod error;
 mod escape;
+mod filled;
 pub mod laws;
 mod number;
 mod part;
@@ -29,6 +30,7 @@ mod words;
 pub use byte::read_byte;
 pub use error::{BadWord, WordError};
 pub use escape::{write_next_word, write_word};
+pub use filled::Filled;
 pub use number::{read_number, read_u32, read_usize};
 pub use reading::Reading;
 pub use word::Word;

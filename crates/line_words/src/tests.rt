@@ -1,7 +1,7 @@
 //! Tests of what no clause says: lines read in both ways, escaped words, numbers and bytes.
 use crate::{
-    Reading, WordError, Words, read_byte, read_number, read_u32, read_usize, write_next_word,
-    write_word,
+    BadWord, Filled, Reading, WordError, Words, read_byte, read_number, read_u32, read_usize,
+    write_next_word, write_word,
 };
 use std::alloc::Global;
 use std::test::Fail;
@@ -66,6 +66,27 @@ fn lines_are_read_in_two_ways(rt: HostRuntime) -> Result<(), Fail> {
         );
     }
     Ok(())
+}
+
+#[test]
+fn words_are_read_into_a_buffer(rt: HostRuntime) {
+    let mut room = [0; 3];
+    let mut words = Words::new(Reading::Free, b" sync %73yn a%2 b%0Ac end");
+    assert_eq!(rt; words.read_into(&mut room), Err(BadWord { place: 1 }));
+    assert_eq!(rt;
+        words.read_into(&mut room),
+        Ok(Some(Filled { place: 6, len: 3 }))
+    );
+    assert_eq!(rt; room, *b"syn");
+    assert_eq!(rt; words.read_into(&mut room), Err(BadWord { place: 12 }));
+    assert_eq!(rt;
+        words.read_into(&mut room),
+        Ok(Some(Filled { place: 16, len: 3 }))
+    );
+    assert_eq!(rt; room, *b"b\nc");
+    assert_eq!(rt; words.skip(), Some(22));
+    assert_eq!(rt; words.skip(), None);
+    assert_eq!(rt; words.read_into(&mut room), Ok(None));
 }
 
 #[test]

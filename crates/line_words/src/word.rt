@@ -1,10 +1,10 @@
 //! A word of a line.
-ghost use Rattle.std.specs.Prelude.{◌≡◌, IfOk};
+ghost use Rattle.std.specs.Prelude.{◌≡◌, IfOk, length};
 ghost use Rattle.std.specs.List.{list_all};
-ghost use Rattle.line_words.specs.Spelling.{stands};
-ghost use Rattle.line_words.specs.Steps.{bytes_of, ReadsPart};
+ghost use Rattle.line_words.specs.Spelling.{stands, word_of};
+ghost use Rattle.line_words.specs.Steps.{bytes_of, Fits, ReadsPart};
 
-use crate::escape::{stands, unescape};
+use crate::escape::{stands, unescape, unescape_into};
 use crate::reading::Reading;
 use std::alloc::{AllocError, Global};
 use std::marker::Model;
@@ -80,6 +80,17 @@ pub(crate) fn read_part(
         Some(bytes) => Ok(Some(Held::Made(bytes))),
         None => Ok(None),
     }
+}
+
+// Writes the word that a part of a line spells to the beginning of `room`, and gives its length.
+pub(crate) fn part_into(reading: Reading, part: &[u8], room: &mut [u8]) -> Option<usize>
+    ensures fits { Fits (word_of reading part.now) room.new result }
+    ensures room { length room.new ≡ length room.old }
+{
+    if part.is_empty() {
+        return None;
+    }
+    unescape_into(reading, part, room)
 }
 
 // Whether each byte stands for itself.

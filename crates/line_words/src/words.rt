@@ -16,9 +16,9 @@ use std::marker::Model;
 /// others, as an atom's in a line, are read by whoever reads on with the same `Words`.
 #[derive(Drop)]
 pub struct Words<'a> {
-    reading: Reading,
-    line: &'a [u8],
-    next: Option<usize>,
+    pub(crate) reading: Reading,
+    pub(crate) line: &'a [u8],
+    pub(crate) next: Option<usize>,
 }
 
 impl<'a> Model for Words<'a> {

@@ -1,31 +1,30 @@
-use Rattle.std.proofs.Common.{rules, ◌≡◌, ◌∙◌, [], ◌∷◌, codes, sym, subst, false, Some}
+use Rattle.std.proofs.Common.{rules, ◌≡◌, [], ◌∷◌, codes, subst, false, Some, take}
 use Rattle.entry_tree.specs.AtomReading.{Answers}
+use Rattle.entry_tree.proofs.Atoms.{refused, ended, stopped, onward}
 use Rattle.entry_tree.specs.AtomText.{is_link_text}
-use Rattle.entry_tree.proofs.Atoms.{failed, ended, stopped, onward}
-use Rattle.entry_tree.proofs.Atoms.{whole_link, link_begins, link_is_none, bad_text}
+use Rattle.entry_tree.proofs.Atoms.{link_begins, link_is_none, bad_text, short_link}
 use Rattle.entry_tree.proofs.reading.read_link.Goals as goal
 
-pub read_end-requires-clause-whole : goal.read_end-requires-clause-whole
-read_end-requires-clause-whole c = whole_link _
+pub returns-in-Some : goal.returns-in-Some
+returns-in-Some c =
+    let word = take c.in-Ok-Some.word.len c.read_into.new.room in
+    let e : c.args.words.now ≡ record { place = c.in-Ok-Some.word.place; word = Some word } ∷ c.read_into.new.self = search rules in
+    let is : 61 ∷ c.in-Some.text.now ≡ word = search rules in
+    onward (codes "link" ∷ []) c.args.words.now c.args.end _ _ _ c.read_link_end.result e
+    (subst (λ word. Answers (codes "link" ∷ word ∷ []) c.read_into.new.self c.args.end c.read_link_end.result) is c.read_link_end.ensures)
 
-pub returns-in-Ok-Some-link_text : goal.returns-in-Ok-Some-link_text
-returns-in-Ok-Some-link_text c =
-    let e : c.args.words.now ≡ record { place = c.in-Ok-Some.word.place; word = Some c.in-Ok-Some.word.bytes } ∷ c.next_word.new.words = search rules in
-    let told = rw c.in-Ok-Some-link_text.field-0-is at c.in-Ok-Some-link_text.ensures.text in
-    let w : 61 ∷ c.in-Ok-Some-link_text.text ≡ c.in-Ok-Some.word.bytes = sym told.0 ∙ c.bytes.ensures in
-    onward (codes "link" ∷ []) c.args.words.now c.args.end _ _ _ c.read_end.result e
-    (subst (λ word. Answers (codes "link" ∷ word ∷ []) c.next_word.new.words c.args.end c.read_end.result) w c.read_end.ensures)
-
-pub returns-in-Ok-None-link_text : goal.returns-in-Ok-None-link_text
-returns-in-Ok-None-link_text c =
-    let e : c.args.words.now ≡ record { place = c.in-Ok-Some.word.place; word = Some c.in-Ok-Some.word.bytes } ∷ c.next_word.new.words = search rules in
-    let none : is_link_text c.in-Ok-Some.word.bytes ≡ false = search rules in
-    rw c.bad.ensures (rw c.place.ensures (stopped (codes "link" ∷ []) c.args.words.now c.args.end _ (Some c.in-Ok-Some.word.bytes) _ e link_begins (bad_text c.in-Ok-Some.word.bytes none)))
+pub returns-in-None : goal.returns-in-None
+returns-in-None c =
+    let word = take c.in-Ok-Some.word.len c.read_into.new.room in
+    let e : c.args.words.now ≡ record { place = c.in-Ok-Some.word.place; word = Some word } ∷ c.read_into.new.self = search rules in
+    let none : is_link_text word ≡ false = search rules in
+    rw c.bad.ensures (stopped (codes "link" ∷ []) c.args.words.now c.args.end _ (Some word) _ e link_begins (bad_text word none))
 
 pub returns-in-Ok-None : goal.returns-in-Ok-None
 returns-in-Ok-None c =
     let e : c.args.words.now ≡ [] = search rules in
     rw c.bad-in-Ok-None.ensures (ended (codes "link" ∷ []) c.args.words.now c.args.end e link_begins link_is_none)
 
-pub returns : goal.returns
-returns c = failed (codes "link" ∷ []) c.args.words.now c.args.end c.in-Err.error c.next_word.new.words c.in-Err.ensures link_begins
+pub returns-in-Err : goal.returns-in-Err
+returns-in-Err c =
+    rw c.bad-in-Err.ensures (refused (codes "link" ∷ []) c.args.words.now c.args.end 4097 c.in-Err.word c.read_into.new.room c.read_into.new.self c.in-Err.ensures.room c.in-Err.ensures.reads link_begins short_link)
