@@ -46,7 +46,7 @@ use Rattle.mode_rules.proofs.ListLaws.{kept_in}
 use Rattle.mode_rules.proofs.PlanPaths.{line_there, folder_line, agreed_line}
 
 -- a line of another path's doesn't decide what stands at a path that isn't at or below it
-untouched : (q : Names) (l : AncestorLine) → is_under q (line_path l) ≡ false → touches_line q l ≡ false
+pub untouched : (q : Names) (l : AncestorLine) → is_under q (line_path l) ≡ false → touches_line q l ≡ false
 untouched q (lines.Drop path) e = e
 untouched q (lines.Set path atom) e = by (eq_by_cmp path_cmp q path) refl
   where
@@ -70,10 +70,10 @@ folder_untouched q p out = by (eq_by_cmp path_cmp q p) refl
     by true t = let no : true ≡ false = sym (under_itself q) ∙ ap (λ x. is_under x q) (tie_is q p t) ∙ out in cc
     by false t = refl
 
-not_touched : (q : Names) (w : Option Atom) (l : AncestorLine) → touches_line q l ≡ false → GivesLine q w l
+pub not_touched : (q : Names) (w : Option Atom) (l : AncestorLine) → touches_line q l ≡ false → GivesLine q w l
 not_touched q w l e there = let no : true ≡ false = sym there ∙ e in absurd (cc)
 
-less_before : (p r : Names) → is_under p r ≡ true → is_under r p ≡ false → path_cmp r p ≡ Less
+pub less_before : (p r : Names) → is_under p r ≡ true → is_under r p ≡ false → path_cmp r p ≡ Less
 less_before p r up down =
     let below : (is_lt (path_cmp r p) && is_under p r) ≡ true = sym (below_is p r) ∙ below_is_under p r ∙ (λ i. up i && not (down i)) in
     is_less (path_cmp r p) (and_parts (is_lt (path_cmp r p)) (is_under p r) below).0
@@ -87,7 +87,7 @@ not_both_less : (p r : Names) → path_cmp r p ≡ Less → path_cmp p r ≡ Les
 not_both_less p r e f = let no : Less ≡ Greater = sym f ∙ path_cmp_total.antisymm p r ∙ ap ordering_reverse e in cc
 
 -- what stands before a path in order, among paths in order, is among those before it
-among_front : (front : List Names) (p r : Names) (rest : List Names) → IsStrictlySortedBy path_cmp (front ++ p ∷ rest) → path_cmp r p ≡ Less
+pub among_front : (front : List Names) (p r : Names) (rest : List Names) → IsStrictlySortedBy path_cmp (front ++ p ∷ rest) → path_cmp r p ≡ Less
     → list_any (eq_by_cmp path_cmp r) (front ++ p ∷ rest) ≡ true → list_any (eq_by_cmp path_cmp r) front ≡ true
 among_front front p r rest sorted less has =
     elim (or_cases (list_any (eq_by_cmp path_cmp r) front) _ (sym (list_any-append (eq_by_cmp path_cmp r) front (p ∷ rest)) ∙ has)) [
@@ -114,7 +114,7 @@ among_front front p r rest sorted less has =
           | inr more ↦ none rest (sorted_head path_cmp p rest s) more
         ]
 
-all_front : {X : Type 0} (P : X → Type 0) (xs ys : List X) → AllByRecursion P (xs ++ ys) → AllByRecursion P xs
+pub all_front : {X : Type 0} (P : X → Type 0) (xs ys : List X) → AllByRecursion P (xs ++ ys) → AllByRecursion P xs
 all_front P [] ys h = tt
 all_front P (x ∷ xs) ys h = (h.0, all_front P xs ys h.1)
 
@@ -127,7 +127,7 @@ filter_of-append test (x ∷ xs) ys = by (test x) (filter_of-append test xs ys)
     by true e = ap (λ l. x ∷ l) e
     by false e = e
 
-answers-append : {X Y : Type 0} (f : X → Option Y) (xs ys : List X) → filter_map f (xs ++ ys) ≡ filter_map f xs ++ filter_map f ys
+pub answers-append : {X Y : Type 0} (f : X → Option Y) (xs ys : List X) → filter_map f (xs ++ ys) ≡ filter_map f xs ++ filter_map f ys
 answers-append f [] ys = refl
 answers-append f (x ∷ xs) ys = ap (cons_option (f x)) (answers-append f xs ys) ∙ by (f x) (filter_map f xs)
   where
@@ -141,6 +141,28 @@ tracked_is x e = by (is_tracked x) e
     by : (b : Bool) → not b ≡ false → b ≡ true
     by true e = refl
     by false e = absurd (cc)
+
+-- a line that sets something can be taken up where all above its path are folders
+pub let_set : (m : ByPath Atom) (p : Names) (atom : Atom) → ((r : Names) → is_under p r ≡ true → is_under r p ≡ false → trees.get m r ≡ Some Dir) → (next : ByPath Atom) × (with_line m (lines.Set p atom) ≡ Some next)
+let_set m p atom above = (set_at is_dir m p atom, ap (λ (r : Option TreeError). cond (is_some r) None (Some (set_at is_dir m p atom))) allowed)
+  where
+    turned : (b : Bool) → not b ≡ true → b ≡ false
+    turned true e = absurd (cc)
+    turned false e = refl
+
+    allowed : refusal is_dir (at_parent m p) ≡ None
+    allowed =
+        elim (root_or_child p) [
+          | inl root ↦ ap (λ (x : Names). refusal is_dir (option_map (trees.get m) (parent_of x))) root
+          | inr child ↦
+              ap (λ (x : Names). refusal is_dir (option_map (trees.get m) (parent_of x))) child.2
+              ∙ ap (λ (o : Option Names). refusal is_dir (option_map (trees.get m) o)) (parent-child child.0 child.1)
+              ∙ ap (λ (o : Option Atom). refusal is_dir (Some o))
+              (let below : (is_under p child.0 && not (is_under child.0 p)) ≡ true =
+              sym (below_is_under p child.0) ∙ ap (λ (x : Names). is_below x child.0) child.2 ∙ child_below child.0 child.1 in
+              let both = and_parts (is_under p child.0) (not (is_under child.0 p)) below in
+              above child.0 both.0 (turned (is_under child.0 p) both.1))
+        ]
 
 module _ (mode : Mode) (t : Trees) where
   -- the lines of these paths
@@ -252,27 +274,6 @@ module _ (mode : Mode) (t : Trees) where
         before =
             among_front front p r rest (subst (IsStrictlySortedBy path_cmp) (sym whole) (paths_sorted t)) (less_before p r up down)
             (ap (list_any (eq_by_cmp path_cmp r)) whole ∙ among_above t closed p r has up down)
-
-    let_set : (m : ByPath Atom) (p : Names) (atom : Atom) → ((r : Names) → is_under p r ≡ true → is_under r p ≡ false → trees.get m r ≡ Some Dir) → (next : ByPath Atom) × (with_line m (lines.Set p atom) ≡ Some next)
-    let_set m p atom above = (set_at is_dir m p atom, ap (λ (r : Option TreeError). cond (is_some r) None (Some (set_at is_dir m p atom))) allowed)
-      where
-        turned : (b : Bool) → not b ≡ true → b ≡ false
-        turned true e = absurd (cc)
-        turned false e = refl
-
-        allowed : refusal is_dir (at_parent m p) ≡ None
-        allowed =
-            elim (root_or_child p) [
-              | inl root ↦ ap (λ (x : Names). refusal is_dir (option_map (trees.get m) (parent_of x))) root
-              | inr child ↦
-                  ap (λ (x : Names). refusal is_dir (option_map (trees.get m) (parent_of x))) child.2
-                  ∙ ap (λ (o : Option Names). refusal is_dir (option_map (trees.get m) o)) (parent-child child.0 child.1)
-                  ∙ ap (λ (o : Option Atom). refusal is_dir (Some o))
-                  (let below : (is_under p child.0 && not (is_under child.0 p)) ≡ true =
-                  sym (below_is_under p child.0) ∙ ap (λ (x : Names). is_below x child.0) child.2 ∙ child_below child.0 child.1 in
-                  let both = and_parts (is_under p child.0) (not (is_under child.0 p)) below in
-                  above child.0 both.0 (turned (is_under child.0 p) both.1))
-            ]
 
     -- a line can be taken up once those before it are
     next_line : (front : List Names) (p : Names) (rest : List Names) → front ++ p ∷ rest ≡ paths_of t → (m : ByPath Atom) → with_lines t.ancestor (lines_in front) ≡ Some m

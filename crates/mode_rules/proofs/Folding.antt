@@ -82,7 +82,7 @@ tracked-with_line tree m l is sets tracked q atom at = by l sets (touches_line q
     by l h false e is = tracked q atom (ap (λ b. cond b (given q l) (trees.get tree q)) (sym e) ∙ is)
 
 -- all lines, the first one first
-with_first : (first : Option (ByPath Atom)) (m : ByPath Atom) (ls : List AncestorLine) → option_and_then (λ (next : ByPath Atom). with_lines next ls) first ≡ Some m
+pub with_first : (first : Option (ByPath Atom)) (m : ByPath Atom) (ls : List AncestorLine) → option_and_then (λ (next : ByPath Atom). with_lines next ls) first ≡ Some m
     → (next : ByPath Atom) × (first ≡ Some next) × (with_lines next ls ≡ Some m)
 with_first None m ls is = absurd (none_is_not_some m is)
 with_first (Some next) m ls is = (next, refl, is)

@@ -39,7 +39,7 @@ use Rattle.mode_rules.proofs.ListLaws.{kept_in}
 use Rattle.mode_rules.proofs.PlanPaths.{Stops, change_stop, conflict_stop, one_kind}
 
 -- What is known of a path at which this is decided: that the path is among those of the trees, and which side holds something.
-abbrev Met : Type 0 → Type 0 → Bool → Bool → Verdict → Type 0
+abbrev pub Met : Type 0 → Type 0 → Bool → Bool → Verdict → Type 0
 Met Has Same h k verdicts.AlphaTakes = Has
 Met Has Same h k verdicts.BetaTakes = Has
 Met Has Same h k verdicts.AlphaEmptied = Has × (k ≡ false)
@@ -70,7 +70,7 @@ met_by Has Same OneWaySafe a al b false false k has one = tt
 met_by Has Same OneWayReplica a al b bl h k has one = has
 
 -- what is decided makes both sides the same, or is a conflict of both
-abbrev MeetsOrBoth : Verdict → Type 0
+abbrev pub MeetsOrBoth : Verdict → Type 0
 MeetsOrBoth v = (meets v ≡ true) ⊎ (v ≡ verdicts.Both)
 
 -- the modes in which a path that differs is taken from one side, or is a conflict
@@ -99,7 +99,7 @@ resolved_takes sa sb h = by sa.same sa.less
 pub replica_takes : Takes OneWayReplica
 replica_takes sa sb h = inl refl
 
-none_there : (o : Option Atom) → is_some o ≡ false → o ≡ None
+pub none_there : (o : Option Atom) → is_some o ≡ false → o ≡ None
 none_there None e = refl
 none_there (Some x) e = absurd (cc)
 
@@ -138,7 +138,7 @@ module _ (mode : Mode) (t : Trees) where
   conflict_is p = refl
 
   -- what is known at a path, by what is decided there
-  known : (p : Names) → Met (IsAmong t p) (trees.get t.alpha p ≡ trees.get t.beta p) (is_some (trees.get t.alpha p)) (is_some (trees.get t.beta p)) (verdict mode t p)
+  pub known : (p : Names) → Met (IsAmong t p) (trees.get t.alpha p ≡ trees.get t.beta p) (is_some (trees.get t.alpha p)) (is_some (trees.get t.beta p)) (verdict mode t p)
   known p =
       let a = trees.get t.alpha p in
       let b = trees.get t.beta p in
@@ -224,25 +224,25 @@ module _ (mode : Mode) (t : Trees) where
         pub stays : (tree : ByPath Atom) → IfSome (change_at mode t d.at) (Gives side q (trees.get tree q)) → trees.get (after side tree (plan_of mode t).changes) q ≡ trees.get tree q
         stays tree here = after_kept side q (trees.get tree q) (plan_of mode t).changes tree (each_gives (trees.get tree q) here) refl
 
-        becomes : (tree : ByPath Atom) (w : Option Atom) (change : Change) → IsAmong t d.at → change_at mode t d.at ≡ Some change
+        pub becomes : (tree : ByPath Atom) (w : Option Atom) (change : Change) → IsAmong t d.at → change_at mode t d.at ≡ Some change
             → touches side q change ≡ true → trees.get change.new q ≡ w → trees.get (after side tree (plan_of mode t).changes) q ≡ w
         becomes tree w change has is there gives =
             after_given side q w (plan_of mode t).changes tree
             (each_gives w (subst (λ (o : Option Change). IfSome o (Gives side q w)) (sym is) (λ _. gives)))
             (any_kept (touches side q) (is_point t) (change_at mode t) d.at change (decider_is_point t q d) is there (paths_of t) has)
 
-      some_conflict : (found : Conflict) → IsAmong t d.at → conflict_at mode t d.at ≡ Some found → (plan_of mode t).conflicts ≡ [] → ⊥
+      pub some_conflict : (found : Conflict) → IsAmong t d.at → conflict_at mode t d.at ≡ Some found → (plan_of mode t).conflicts ≡ [] → ⊥
       some_conflict found has is none =
           let some : list_any (λ _. true) (plan_of mode t).conflicts ≡ true = any_kept (λ _. true) (is_point t) (conflict_at mode t) d.at found (decider_is_point t q d) is refl (paths_of t) has in
           let no : true ≡ false = sym some ∙ ap (list_any (λ _. true)) none in
           cc
 
       -- where neither side holds anything at the deciding point, neither does at the path
-      both_gone : (side : ByPath Atom) → IsClosed is_dir side → is_some (trees.get side d.at) ≡ false → trees.get side q ≡ None
+      pub both_gone : (side : ByPath Atom) → IsClosed is_dir side → is_some (trees.get side d.at) ≡ false → trees.get side q ≡ None
       both_gone side side_closed none = nothing_under side side_closed d.at q (none_there _ none) d.under
 
       -- below what is no folder stands nothing
-      leaf_below : (side : ByPath Atom) → IsClosed is_dir side → is_under d.at q ≡ false → holds_folder (trees.get side d.at) ≡ false → trees.get side q ≡ None
+      pub leaf_below : (side : ByPath Atom) → IsClosed is_dir side → is_under d.at q ≡ false → holds_folder (trees.get side d.at) ≡ false → trees.get side q ≡ None
       leaf_below side side_closed down leaf = by (trees.get side q) refl
         where
           by : (o : Option Atom) → trees.get side q ≡ o → o ≡ None
@@ -369,7 +369,7 @@ module _ (mode : Mode) (t : Trees) where
                   (λ l there. absurd (none_is_not_some l (sym stops.unwritten ∙ there))) (paths_of t) (each_among t)) refl;
             }
 
-is_free : (tree : ByPath Atom) (q : Names) → HoldsOnlyTracked tree → is_blocked (trees.get tree q) ≡ false
+pub is_free : (tree : ByPath Atom) (q : Names) → HoldsOnlyTracked tree → is_blocked (trees.get tree q) ≡ false
 is_free tree q tracked = by (trees.get tree q) (tracked q)
   where
     by : (o : Option Atom) → ((atom : Atom) → o ≡ Some atom → is_tracked atom ≡ true) → is_blocked o ≡ false
