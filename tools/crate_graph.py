@@ -12,7 +12,7 @@ FLOORS = [
     ("programs", ["sync_cli"]),
     ("tests", ["script_tests", "plan_tests", "roots_tests", "link_tests"]),
     ("runs", ["script_engine"]),
-    ("cycles", ["reconcile"]),
+    ("cycles", ["plan_laws", "reconcile"]),
     ("roots", ["mem_roots", "root_laws"]),
     ("models", ["mode_rules", "roots_api", "ignore_rules", "ignore_glob", "entry_tree", "sync_path", "line_words"]),
     ("streams", ["forward_core", "mux_link", "mux_core", "mux_frames"]),
