@@ -1,0 +1,3 @@
+pub mod BadFrames
+pub mod KeptFrames
+pub mod Opened

@@ -1,0 +1,5 @@
+pub mod Codes
+pub mod Keeping
+pub mod MemCodes
+pub mod MemKept
+pub mod Opening

@@ -1,0 +1,9 @@
+pub mod Bodies
+pub mod Folding
+pub mod HeadWords
+pub mod LineReading
+pub mod LineWords
+pub mod NumberWords
+pub mod Parts
+pub mod Readers
+pub mod Written
