@@ -1,0 +1,5 @@
+mod Firsts
+mod Ignoring
+mod Seeing
+mod States
+mod Taking

@@ -1,0 +1,4 @@
+pub mod Look
+pub mod ScanLists
+pub mod Seen
+pub mod Worked
