@@ -44,7 +44,8 @@ pub trait Keeper {
         ensures frames { WhereTold (told self.old key) (told self.new key) (Appends frame.now result) }
         ensures others { (other : KeepKey) → other ≢ key → told self.new other ≡ told self.old other }
         ensures counts { faults self.old ≤ faults self.new }
-        ensures fault { result ≡ Err Fault → Rose (faults self.old) (faults self.new) };
+        ensures fault { result ≡ Err Fault → Rose (faults self.old) (faults self.new) }
+        ensures no_fault { result ≢ Err Fault → faults self.new ≡ faults self.old };
 }
 
 /// A keeper whose frames can be read.

@@ -128,12 +128,12 @@ impl Keeper for MemKeeper {
         ensures others { (other : KeepKey) → other ≢ key → Some (frames_of other self.new.kept) ≡ Some (frames_of other self.old.kept) }
         ensures counts { self.old.faults ≤ self.new.faults }
         ensures fault { result ≡ Err Fault → Rose self.old.faults self.new.faults }
+        ensures no_fault { result ≢ Err Fault → self.new.faults ≡ self.old.faults }
 
         // The appends that are to fail do, and no others.
         ensures fails { (result ≡ Err Fault) ↔ IsTrue (is_to_fail self.old) }
         ensures called { self.new.made ≡ (after_call self.old).made }
         ensures failing { self.new.failing ≡ self.old.failing }
-        ensures no_fault { OnOk result (self.new.faults ≡ self.old.faults) }
     {
         if self.is_to_fail() {
             count_fault(&mut self.faults);

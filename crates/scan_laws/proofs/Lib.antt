@@ -1,0 +1,4 @@
+mod Bounding
+mod Firsts
+mod Seeing
+mod Standing

@@ -1,4 +1,6 @@
+pub mod Bounds
 pub mod Look
 pub mod ScanLists
 pub mod Seen
+pub mod Standing
 pub mod Worked

@@ -1,6 +1,7 @@
 -- Which lists of operations and answers a scan asks, and which are whole.
-use Rattle.std.specs.Prelude.{ℕ, ◌+◌, ◌==◌, Bool, true, false, not, ◌&&◌, cond, List, [], ◌∷◌, ◌++◌, length, nat_lt, sum_by, Option, Some, is_some}
+use Rattle.std.specs.Prelude.{ℕ, ◌+◌, ◌==◌, Bool, true, false, not, ◌&&◌, cond, List, [], ◌∷◌, ◌++◌, length, nat_lt, Option, Some, is_some}
 use Rattle.entry_tree.specs.Tree.{Names}
+use Rattle.entry_tree.specs.declared.entry.Stamp.{Stamp}
 use Rattle.ignore_glob.specs.Grammar.{Meaning}
 use Rattle.roots_api.specs.Answers.{is_failed, is_full}
 use Rattle.roots_api.specs.Logs.{rows_in}
@@ -19,16 +20,17 @@ abbrev pub is_list : Op → Bool
 is_list (OpList path) = true
 is_list op = false
 
-module _ {B : Type 0} (len : B → ℕ) (entries : ℕ) (rules : List Meaning) (size : ℕ) where
-  -- how many rows were listed
-  abbrev pub rows_heard : List (Heard B) → ℕ
-  rows_heard hs = sum_by (λ h. rows_in h.answer) hs
+-- how many rows were listed
+abbrev pub rows_heard : {B : Type 0} → List (Heard B) → ℕ
+rows_heard [] = 0
+rows_heard (h ∷ hs) = rows_in h.answer + rows_heard hs
 
+module _ {B : Type 0} (len : B → ℕ) (entries : ℕ) (rules : List Meaning) (size : ℕ) where
   -- whether an answer ends a scan: the root is full, the List of a folder failed, or more rows were listed than a side may have
   abbrev pub is_end : List (Heard B) → Heard B → Bool
   is_end before h = cond (is_full h.answer) true (cond (is_list h.op && is_failed h.answer) true (nat_lt entries (rows_heard before + rows_in h.answer)))
 
-  module _ (spares : Names → Bool) where
+  module _ (spares : Names → Stamp → Bool) where
     -- whether, behind what was heard before, each of these is what is asked next, and its answer ends nothing
     abbrev pub goes_on : List (Heard B) → List (Heard B) → Bool
     goes_on before [] = true
@@ -43,8 +45,8 @@ module _ {B : Type 0} (len : B → ℕ) (entries : ℕ) (rules : List Meaning) (
     is_whole_list hs = is_scan_list hs && not (is_some (asked_next len rules size hs spares))
 
   -- no Fetch of a path stands in a list
-  abbrev pub is_unfetched : List (Heard B) → Names → Bool
-  is_unfetched hs p = nat_lt (length (fetched len rules size hs p)) 1
+  abbrev pub is_unfetched : List (Heard B) → Names → Stamp → Bool
+  is_unfetched hs p stamp = nat_lt (length (fetched len rules size hs p)) 1
 
   -- A WHOLE SCAN: a scan with a cache that spares each file without a Fetch in the list asks just this, and has nothing left to ask
   abbrev pub is_whole_scan : List (Heard B) → Bool

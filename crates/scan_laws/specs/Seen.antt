@@ -77,7 +77,7 @@ module _ {B : Type 0} where
   named_by (OpList path) (Listed rows) = map (λ row. path ++ row.0 ∷ []) rows
   named_by op answer = []
 
-  -- how many rows an answer to a List has
+  -- the root, and the paths that the rows name
   abbrev pub paths_in : List (Heard B) → List Names
   paths_in hs = [] ∷ flat_map (λ h. named_by h.op h.answer) hs
 
@@ -135,12 +135,12 @@ module _ {B : Type 0} (len : B → ℕ) (rules : List Meaning) (size : ℕ) (hs 
     abbrev pub seen_at : Names → Option Atom
     seen_at p = option_map (atom_at p) (held p)
 
-  -- `spares` says of which files the content needn't be fetched.
-  module _ (spares : Names → Bool) where
+  -- `spares` says of which files, by path and stamp, the content needn't be fetched.
+  module _ (spares : Names → Stamp → Bool) where
     abbrev pub wanted_as : Names → Entry → Option Op
     wanted_as p entry.Dir = cond (is_some (listed p)) None (Some (OpList p))
     wanted_as p (entry.File stamp exec) =
-        cond (spares p || (is_some (problem_at p) || list_any is_last (fetched p))) None (Some (Fetch p stamp (bytes_of p)))
+        cond (spares p stamp || (is_some (problem_at p) || list_any is_last (fetched p))) None (Some (Fetch p stamp (bytes_of p)))
     wanted_as p entry = None
 
     -- what is still asked of what was held at a path: the List of a folder that wasn't listed, and the next piece of a file whose

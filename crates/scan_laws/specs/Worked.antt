@@ -53,7 +53,7 @@ abbrev pub one_piece : List (Heard ℕ)
 one_piece = listed_root ((codes "a", entry.File (stamp 7) true) ∷ []) ∷ heard (Fetch a (stamp 7) 0) (Piece 3 false) ∷ []
 
 abbrev pub LargeFileIsProblem : Type 0
-LargeFileIsProblem = (is_whole_scan bytes 1 [] 4 two_pieces ≡ true) × (seen_at bytes [] 4 two_pieces digest a ≡ Some (atom.Problem problem.TooLarge)) × (is_scan_list bytes 1 [] 2 (λ p. false) two_pieces ≡ false) × (is_whole_scan bytes 1 [] 2 one_piece ≡ true) × (is_whole_scan bytes 1 [] 3 one_piece ≡ false)
+LargeFileIsProblem = (is_whole_scan bytes 1 [] 4 two_pieces ≡ true) × (seen_at bytes [] 4 two_pieces digest a ≡ Some (atom.Problem problem.TooLarge)) × (is_scan_list bytes 1 [] 2 (λ p s. false) two_pieces ≡ false) × (is_whole_scan bytes 1 [] 2 one_piece ≡ true) × (is_whole_scan bytes 1 [] 3 one_piece ≡ false)
 
 -- the file was replaced between two pieces
 abbrev pub replaced : List (Heard ℕ)
@@ -74,7 +74,7 @@ abbrev pub folder_and_file : List (Heard ℕ)
 folder_and_file = listed_root ((codes "a", entry.Dir) ∷ (codes "b", entry.File (stamp 3) false) ∷ []) ∷ heard (Fetch b (stamp 3) 0) (Piece 0 true) ∷ []
 
 abbrev pub IgnoredIsUntracked : Type 0
-IgnoredIsUntracked = (is_whole_scan bytes 2 no_folders 5 folder_and_file ≡ true) × (seen_at bytes no_folders 5 folder_and_file digest a ≡ Some atom.Untracked) × (is_scan_list bytes 2 [] 5 (λ p. false) folder_and_file ≡ false)
+IgnoredIsUntracked = (is_whole_scan bytes 2 no_folders 5 folder_and_file ≡ true) × (seen_at bytes no_folders 5 folder_and_file digest a ≡ Some atom.Untracked) × (is_scan_list bytes 2 [] 5 (λ p s. false) folder_and_file ≡ false)
 
 -- of two folders one is listed
 abbrev pub two_folders : List (Heard ℕ)
@@ -85,8 +85,8 @@ abbrev pub out_of_order : List (Heard ℕ)
 out_of_order = listed_root ((codes "a", entry.Dir) ∷ (codes "b", entry.Dir) ∷ []) ∷ heard (OpList b) (Listed []) ∷ heard (OpList a) (Listed []) ∷ []
 
 abbrev pub OrderIsPathOrder : Type 0
-OrderIsPathOrder = is_scan_list bytes 2 [] 5 (λ p. false) out_of_order ≡ false
+OrderIsPathOrder = is_scan_list bytes 2 [] 5 (λ p s. false) out_of_order ≡ false
 
 -- two rows where a side may have one
 abbrev pub EndsAtLimit : Type 0
-EndsAtLimit = (is_scan_list bytes 1 [] 5 (λ p. false) two_folders ≡ false) × (is_scan_list bytes 2 [] 5 (λ p. false) two_folders ≡ true)
+EndsAtLimit = (is_scan_list bytes 1 [] 5 (λ p s. false) two_folders ≡ false) × (is_scan_list bytes 2 [] 5 (λ p s. false) two_folders ≡ true)

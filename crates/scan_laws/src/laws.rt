@@ -1,4 +1,6 @@
 //! The laws. Each is the contract of a function that does nothing.
+ghost use Rattle.scan_laws.specs.Bounds.{ListsAreBounded, RowsAreCounted};
+ghost use Rattle.scan_laws.specs.Standing.{SeenIsClosed, StampsAreOfFiles};
 ghost use Rattle.scan_laws.specs.Worked.{FileIsSeen, LargeFileIsProblem, ChangedFileIsProblem, FolderBecameFile, IgnoredIsUntracked, OrderIsPathOrder, EndsAtLimit};
 
 /// Small lists, as examples of the definitions: a file that is read in two pieces; one of more bytes than it may have; one that
@@ -12,4 +14,18 @@ pub fn worked_lists()
     ensures ignored { IgnoredIsUntracked }
     ensures order { OrderIsPathOrder }
     ensures limit { EndsAtLimit }
+{}
+
+/// A scan asks for at most one List more than rows were listed. The rows that count against its limit are all that were listed on the
+/// side, in whatever folders, and they never pass it.
+pub fn lists_and_rows()
+    ensures lists { ListsAreBounded }
+    ensures rows { RowsAreCounted }
+{}
+
+/// What a scan has seen is closed under parents, so that nothing is seen below an atom other than a folder; and just the paths that
+/// are seen as files have a stamp.
+pub fn seen_trees()
+    ensures closed { SeenIsClosed }
+    ensures stamps { StampsAreOfFiles }
 {}

@@ -1,0 +1,8 @@
+use Rattle.scan_laws.proofs.Bounding.{lists_bounded, rows_counted}
+use Rattle.scan_laws.proofs.laws.lists_and_rows.Goals as goal
+
+pub returns-clause-lists : goal.returns-clause-lists
+returns-clause-lists c = lists_bounded
+
+pub returns-clause-rows : goal.returns-clause-rows
+returns-clause-rows c = rows_counted

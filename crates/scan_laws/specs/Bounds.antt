@@ -1,0 +1,43 @@
+-- How much a scan asks, by what it was told.
+use Rattle.std.specs.Prelude.{◌≡◌, ◌≤◌, ℕ, ◌+◌, List, [], ◌∷◌, ◌++◌, cond, Option, Some, None, ⊤}
+use Rattle.roots_api.specs.declared.answer.Answer.{Answer}
+use Rattle.roots_api.specs.declared.op.Op.{Op}
+use Rattle.scan_core.specs.Scan.{ScanState, ScanTold, new_state, state_of, asked, after_told, ends_by, IsAnswered}
+use Rattle.scan_core.specs.Told.{Told}
+use Rattle.scan_laws.specs.ScanLists.{is_list, rows_heard}
+use Rattle.scan_laws.specs.Seen.{Heard}
+
+-- what was asked with what was answered, if anything was asked
+abbrev pub heard_as : Option Op → Answer (List ℕ) → List (Heard (List ℕ))
+heard_as None answer = []
+heard_as (Some op) answer = record { op = op; answer = answer } ∷ []
+
+abbrev pub heard_from : ℕ → ScanState → List Told → List (Heard (List ℕ))
+heard_from size s [] = []
+heard_from size s (t ∷ ts) = heard_as (asked s) t.answer ++ heard_from size (after_told size s t) ts
+
+-- what a scan asked, and what it was answered, the oldest first
+abbrev pub heard_by : ScanTold → List (Heard (List ℕ))
+heard_by m = heard_from m.size new_state m.told
+
+-- each answer is one to what is asked there, by its row, and ends nothing
+abbrev pub AreTaken : ℕ → ℕ → ScanState → List Told → Type 0
+AreTaken entries size s [] = ⊤
+AreTaken entries size s (t ∷ ts) = IsAnswered (asked s) t.answer × (ends_by entries s t.answer ≡ None) × AreTaken entries size (after_told size s t) ts
+
+-- a scan can have been told this
+abbrev pub IsTaken : ScanTold → Type 0
+IsTaken m = AreTaken m.entries m.size new_state m.told
+
+-- how many Lists were asked
+abbrev pub lists_in : {B : Type 0} → List (Heard B) → ℕ
+lists_in [] = 0
+lists_in (h ∷ hs) = cond (is_list h.op) 1 0 + lists_in hs
+
+-- A scan asks for at most one List more than rows were listed. All else that it asks are Fetches.
+abbrev pub ListsAreBounded : Type 0
+ListsAreBounded = (m : ScanTold) → IsTaken m → lists_in (heard_by m) ≤ 1 + rows_heard (heard_by m)
+
+-- the rows that count against the limit are all that were listed on the side, and never pass it
+abbrev pub RowsAreCounted : Type 0
+RowsAreCounted = (m : ScanTold) → IsTaken m → ((state_of m).board.rows ≡ rows_heard (heard_by m)) × ((state_of m).board.rows ≤ m.entries)
