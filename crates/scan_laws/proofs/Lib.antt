@@ -1,4 +1,5 @@
 mod Bounding
 mod Firsts
+mod Knowing
 mod Seeing
 mod Standing

@@ -68,7 +68,7 @@ child_apart f n =
       | false ↦ λ e. refl
     ] refl
 
-itself : (p : Names) → eq_by_cmp path_cmp p p ≡ true
+pub itself : (p : Names) → eq_by_cmp path_cmp p p ≡ true
 itself p = ap is_eq (tied_itself path_cmp_total p)
 
 none_is : (o : Option Atom) → (is_some o ≡ true → ⊥) → o ≡ None
@@ -82,14 +82,14 @@ not_true_is false h = refl
 -- ---- the rows of a folder
 
 module _ (rules : List Meaning) (cache : ByPath Line) (f : Names) where
-  row_goes : (b : Board) (stands : Stands b) (row : List ℕ × Entry) (free : IsOpen b (f ++ row.0 ∷ [])) → Goes b stands (f ++ row.0 ∷ []) free (with_row rules cache f b row)
+  pub row_goes : (b : Board) (stands : Stands b) (row : List ℕ × Entry) (free : IsOpen b (f ++ row.0 ∷ [])) → Goes b stands (f ++ row.0 ∷ []) free (with_row rules cache f b row)
   row_goes b stands row free =
       elim (may_follow f row.0) as (λ c. Goes b stands (f ++ row.0 ∷ []) free (cond c (placed rules cache b (f ++ row.0 ∷ []) row.1) b)) [
         | true ↦ placed_goes b stands (f ++ row.0 ∷ []) free cache rules row.1
         | false ↦ record { stands_after = stands; others = λ q apart o. o }
       ]
 
-  still_open : (b after : Board) (stands : Stands b) (n : List ℕ) (free : IsOpen b (f ++ n ∷ [])) → Goes b stands (f ++ n ∷ []) free after
+  pub still_open : (b after : Board) (stands : Stands b) (n : List ℕ) (free : IsOpen b (f ++ n ∷ [])) → Goes b stands (f ++ n ∷ []) free after
       → (rows : List (List ℕ × Entry)) → AllByRecursion (λ k. slice_cmp nat_cmp n k ≡ Less) (list_map (λ row. row.0) rows)
       → AllByRecursion (λ row. IsOpen b (f ++ row.0 ∷ [])) rows → AllByRecursion (λ row. IsOpen after (f ++ row.0 ∷ [])) rows
   still_open b after stands n free goes [] less open_rows = tt
@@ -105,17 +105,15 @@ module _ (rules : List Meaning) (cache : ByPath Line) (f : Names) where
       (still_open b (with_row rules cache f b row) stands row.0 open_rows.0 goes rows (sorted_head (slice_cmp nat_cmp) row.0 (list_map (λ r. r.0) rows) sorted) open_rows.1)
 
 module _ (b : Board) (stands : Stands b) (f : Names) (free : IsOpen b f) (count : ℕ) where
-  listed : Board
+  abbrev pub listed : Board
   listed = counts (shows b f atom.Dir) count
 
-  listed_stands : Stands listed
-  unfolding listed
+  pub listed_stands : Stands listed
   listed_stands =
       let s = shows_stands b stands f free atom.Dir refl in
       record { closed = s.closed; stamped = s.stamped; later = s.later }
 
   child_open : (n : List ℕ) → IsOpen listed (f ++ n ∷ [])
-  unfolding listed
   child_open n =
       let q = f ++ n ∷ [] in
       let at = shown_at b.seen stands.closed f free.wantable atom.Dir in
@@ -132,12 +130,11 @@ module _ (b : Board) (stands : Stands b) (f : Names) (free : IsOpen b f) (count 
             absurd (cc));
       }
 
-  children_open : (rows : List (List ℕ × Entry)) → AllByRecursion (λ row. IsOpen listed (f ++ row.0 ∷ [])) rows
+  pub children_open : (rows : List (List ℕ × Entry)) → AllByRecursion (λ row. IsOpen listed (f ++ row.0 ∷ [])) rows
   children_open [] = tt
   children_open (row ∷ rows) = (child_open row.0, children_open rows)
 
   pub folder_stands : (rules : List Meaning) (cache : ByPath Line) (rows : List (List ℕ × Entry)) → IsStrictlySortedBy (slice_cmp nat_cmp) (list_map (λ row. row.0) rows) → Stands (with_rows rules cache f (counts (shows b f atom.Dir) count) rows)
-  unfolding listed
   folder_stands rules cache rows sorted = rows_stand rules cache f listed rows listed_stands sorted (children_open rows)
 
 -- ---- what comes next
@@ -239,7 +236,7 @@ wanted_ready : (size : ℕ) (s : ScanState) (t : Told) (path : Names) (wanted : 
 wanted_ready size s t path WantedNames ready free h = list_ready s.board ready path free t.rules t.cache t.answer h
 wanted_ready size s t path (Content stamp exec) ready free h = fetch_ready s.board ready path free size stamp exec s.begun t.answer
 
-asked_ready : (size : ℕ) (s : ScanState) (t : Told) (next : Option Next) → Ready s.board → NextOpen s.board next → IsAnswered (asked_for (length s.begun) next) t.answer → Ready (after_asked size s t next).board
+pub asked_ready : (size : ℕ) (s : ScanState) (t : Told) (next : Option Next) → Ready s.board → NextOpen s.board next → IsAnswered (asked_for (length s.begun) next) t.answer → Ready (after_asked size s t next).board
 asked_ready size s t None ready free h = absurd h
 asked_ready size s t (Some next) ready free h = wanted_ready size s t next.path next.wanted ready free h
 
@@ -247,7 +244,7 @@ pub all_ready : (entries size : ℕ) (s : ScanState) (ts : List Told) → AreTak
 all_ready entries size s [] h ready = ready
 all_ready entries size s (t ∷ ts) h ready = all_ready entries size (after_told size s t) ts h.2 (asked_ready size s t s.board.next ready ready.next h.0)
 
-new_ready : Ready new_board
+pub new_ready : Ready new_board
 new_ready = record {
   stands = record {
     closed = closed_empty is_dir;

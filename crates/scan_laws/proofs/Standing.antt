@@ -122,7 +122,7 @@ module _ (b : Board) (stands : Stands b) (p : Names) (free : IsOpen b p) where
     pub stands_after : Stands after
     pub others : (q : Names) → eq_by_cmp path_cmp q p ≡ false → IsOpen b q → IsOpen after q
 
-  shows_goes : (x : Atom) → is_file (Some x) ≡ false → Goes (shows b p x)
+  pub shows_goes : (x : Atom) → is_file (Some x) ≡ false → Goes (shows b p x)
   shows_goes x other = record {
     stands_after = shows_stands x other;
     others = λ q apart o. record { wantable = stays_wantable b.seen stands.closed p free.wantable x q apart o.wantable; unasked = o.unasked };
@@ -134,7 +134,7 @@ module _ (b : Board) (stands : Stands b) (p : Names) (free : IsOpen b p) where
     others = λ q apart o. record { wantable = stays_wantable b.seen stands.closed p free.wantable (atom.File digest exec) q apart o.wantable; unasked = o.unasked };
   }
 
-  asks_goes : (wanted : Wanted) → Goes (asks b p wanted)
+  pub asks_goes : (wanted : Wanted) → Goes (asks b p wanted)
   asks_goes wanted = record {
     stands_after = asks_stands wanted;
     others = λ q apart o. record {

@@ -1,4 +1,5 @@
 pub mod Bounds
+pub mod Caches
 pub mod Look
 pub mod ScanLists
 pub mod Seen

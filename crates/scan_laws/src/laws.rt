@@ -1,5 +1,6 @@
 //! The laws. Each is the contract of a function that does nothing.
 ghost use Rattle.scan_laws.specs.Bounds.{ListsAreBounded, RowsAreCounted};
+ghost use Rattle.scan_laws.specs.Caches.{FilesAreKnown, LinesStay};
 ghost use Rattle.scan_laws.specs.Standing.{SeenIsClosed, StampsAreOfFiles};
 ghost use Rattle.scan_laws.specs.Worked.{FileIsSeen, LargeFileIsProblem, ChangedFileIsProblem, FolderBecameFile, IgnoredIsUntracked, OrderIsPathOrder, EndsAtLimit};
 
@@ -28,4 +29,11 @@ pub fn lists_and_rows()
 pub fn seen_trees()
     ensures closed { SeenIsClosed }
     ensures stamps { StampsAreOfFiles }
+{}
+
+/// Where all takes were given one cache, which nothing else changed between them, each file that was seen has the digest that the
+/// cache then has for its path and stamp; and no path loses its line.
+pub fn one_cache()
+    ensures files { FilesAreKnown }
+    ensures lines { LinesStay }
 {}
