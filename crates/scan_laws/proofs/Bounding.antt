@@ -222,14 +222,14 @@ module _ (entries size : ℕ) where
   asked_steps s t None is h g = absurd h
   asked_steps s t (Some next) is h g = wanted_steps s t next.path next.wanted is h g
 
-  told_steps : (s : ScanState) (t : Told) → IsAnswered (asked s) t.answer → ends_by entries s t.answer ≡ None → StepsBy s t.answer s.board.next (after_told size s t)
+  pub told_steps : (s : ScanState) (t : Told) → IsAnswered (asked s) t.answer → ends_by entries s t.answer ≡ None → StepsBy s t.answer s.board.next (after_told size s t)
   told_steps s t h g = asked_steps s t s.board.next refl h g
 
   lists_join : (xs ys : List (Heard (List ℕ))) → lists_in (xs ++ ys) ≡ lists_in xs + lists_in ys
   lists_join [] ys = omega arith
   lists_join (x ∷ xs) ys = let rest = lists_join xs ys in omega arith
 
-  rows_join : (xs ys : List (Heard (List ℕ))) → rows_heard (xs ++ ys) ≡ rows_heard xs + rows_heard ys
+  pub rows_join : (xs ys : List (Heard (List ℕ))) → rows_heard (xs ++ ys) ≡ rows_heard xs + rows_heard ys
   rows_join [] ys = omega arith
   rows_join (x ∷ xs) ys = let rest = rows_join xs ys in omega arith
 

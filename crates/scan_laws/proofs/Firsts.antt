@@ -67,7 +67,7 @@ find_below k (e ∷ es) h =
     ap (λ b. cond b (Some e.1) (map.find path_cmp k es)) (is_not_eq (path_cmp k e.0) (first _ _ h)) ∙ find_below k es (second (is_lt (path_cmp k e.0)) _ h)
 
 -- what is left once the first was taken off
-rest_entries : (later : ByPath Wanted) (e : Names × Wanted) (es : List (Names × Wanted)) → map.entries later ≡ e ∷ es → map.entries (map.remove later e.0) ≡ es
+pub rest_entries : (later : ByPath Wanted) (e : Names × Wanted) (es : List (Names × Wanted)) → map.entries later ≡ e ∷ es → map.entries (map.remove later e.0) ≡ es
 rest_entries later e es is =
     let sorted : T (map.is_sorted path_cmp (e ∷ es)) = subst (λ l. T (map.is_sorted path_cmp l)) is (map.entries_sorted later) in
     let below = first (below_all path_cmp e.0 es) _ sorted in

@@ -259,13 +259,13 @@ asked_knows : (size : ℕ) (s : ScanState) (t : Told) (next : Option Next) → R
 asked_knows size s t None ready free h k = absurd h
 asked_knows size s t (Some next) ready free h k = wanted_knows size s t next.path next.wanted ready free h k
 
-all_know : (entries size : ℕ) (s : ScanState) (before after : ByPath Line) (ts : List Told) → AreTaken entries size s ts → IsOneCache size s before ts after → Ready s.board → Knows s.board before → Knows (after_all size s ts).board after
+pub all_know : (entries size : ℕ) (s : ScanState) (before after : ByPath Line) (ts : List Told) → AreTaken entries size s ts → IsOneCache size s before ts after → Ready s.board → Knows s.board before → Knows (after_all size s ts).board after
 all_know entries size s before after [] h one ready k = subst (Knows s.board) (sym one) k
 all_know entries size s before after (t ∷ ts) h one ready k =
     all_know entries size (after_told size s t) (learns size s t) after ts h.2 one.1 (asked_ready size s t s.board.next ready ready.next h.0)
     (asked_knows size s t s.board.next ready ready.next h.0 (subst (Knows s.board) (sym one.0) k))
 
-new_knows : (cache : ByPath Line) → Knows new_board cache
+pub new_knows : (cache : ByPath Line) → Knows new_board cache
 new_knows cache = record { known = λ q d e s seen stamped. absurd (let clash : None ≡ Some s = sym (map.get-empty path_cmp q) ∙ stamped in cc) }
 
 pub files_are_known : FilesAreKnown

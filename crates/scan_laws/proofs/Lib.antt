@@ -1,5 +1,16 @@
+mod Boards
 mod Bounding
+mod Fetching
 mod Firsts
+mod Going
+mod Heard
 mod Knowing
+mod Looking
+mod Meeting
+mod Needs
+mod Points
+mod Reading
 mod Seeing
 mod Standing
+mod Tying
+mod Undisturbed

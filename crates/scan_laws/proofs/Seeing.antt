@@ -42,11 +42,11 @@ use Rattle.scan_laws.proofs.Standing.{Wantable, Stands, IsOpen, Goes, shown_at, 
 
 -- ---- children of one folder
 
-last_of : List ℕ → Names → List ℕ
+pub last_of : List ℕ → Names → List ℕ
 last_of d [] = d
 last_of d (x ∷ xs) = last_of x xs
 
-last_child : (d : List ℕ) (f : Names) (n : List ℕ) → last_of d (f ++ n ∷ []) ≡ n
+pub last_child : (d : List ℕ) (f : Names) (n : List ℕ) → last_of d (f ++ n ∷ []) ≡ n
 unfolding last_of
 last_child d [] n = refl
 last_child d (x ∷ f) n = last_child x f n
@@ -61,7 +61,7 @@ children_apart f n k less =
       | false ↦ λ e. refl
     ] refl
 
-child_apart : (f : Names) (n : List ℕ) → eq_by_cmp path_cmp (f ++ n ∷ []) f ≡ false
+pub child_apart : (f : Names) (n : List ℕ) → eq_by_cmp path_cmp (f ++ n ∷ []) f ≡ false
 child_apart f n =
     elim (eq_by_cmp path_cmp (f ++ n ∷ []) f) as (λ b. eq_by_cmp path_cmp (f ++ n ∷ []) f ≡ b → b ≡ false) [
       | true ↦ λ e. absurd (let clash : true ≡ false = sym (child_below f n) ∙ ap (λ z. is_below z f) (tie_is (f ++ n ∷ []) f e) ∙ not_below_itself f in cc)
@@ -113,7 +113,7 @@ module _ (b : Board) (stands : Stands b) (f : Names) (free : IsOpen b f) (count 
       let s = shows_stands b stands f free atom.Dir refl in
       record { closed = s.closed; stamped = s.stamped; later = s.later }
 
-  child_open : (n : List ℕ) → IsOpen listed (f ++ n ∷ [])
+  pub child_open : (n : List ℕ) → IsOpen listed (f ++ n ∷ [])
   child_open n =
       let q = f ++ n ∷ [] in
       let at = shown_at b.seen stands.closed f free.wantable atom.Dir in

@@ -1,7 +1,9 @@
 pub mod Bounds
 pub mod Caches
 pub mod Look
+pub mod Meeting
 pub mod ScanLists
 pub mod Seen
 pub mod Standing
+pub mod Undisturbed
 pub mod Worked

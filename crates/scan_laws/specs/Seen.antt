@@ -81,6 +81,11 @@ module _ {B : Type 0} where
   abbrev pub paths_in : List (Heard B) → List Names
   paths_in hs = [] ∷ flat_map (λ h. named_by h.op h.answer) hs
 
+-- how many bytes a piece has; `len` says how many its own bytes are
+abbrev pub piece_len : {B : Type 0} → (B → ℕ) → Answer B → ℕ
+piece_len len (Piece bytes last) = len bytes
+piece_len len answer = 0
+
 -- an atom by whether the content of its file was seen
 abbrev pub file_atom : List ℕ → Bool → Option ProblemKind → Atom
 file_atom digest exec None = atom.File digest exec
@@ -107,13 +112,9 @@ module _ {B : Type 0} (len : B → ℕ) (rules : List Meaning) (size : ℕ) (hs 
   abbrev pub fetched : Names → List (Answer B)
   fetched p = filter_map (λ h. answered_fetch p h.op h.answer) hs
 
-  abbrev pub piece_len : Answer B → ℕ
-  piece_len (Piece bytes last) = len bytes
-  piece_len answer = 0
-
   -- how many bytes were fetched of the file at a path
   abbrev pub bytes_of : Names → ℕ
-  bytes_of p = sum_by piece_len (fetched p)
+  bytes_of p = sum_by (piece_len len) (fetched p)
 
   -- why the content of the file at a path wasn't seen: a Fetch was refused, or the pieces hold more bytes than a file may have
   abbrev pub problem_at : Names → Option ProblemKind

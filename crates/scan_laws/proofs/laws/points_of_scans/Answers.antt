@@ -1,0 +1,14 @@
+use Rattle.scan_laws.proofs.Meeting.{asks_what_points_say, sees_what_points_say, whole_sees_seen_tree, asks_a_scans_list}
+use Rattle.scan_laws.proofs.laws.points_of_scans.Goals as goal
+
+pub returns-clause-asks : goal.returns-clause-asks
+returns-clause-asks c = asks_what_points_say
+
+pub returns-clause-sees : goal.returns-clause-sees
+returns-clause-sees c = sees_what_points_say
+
+pub returns-clause-whole : goal.returns-clause-whole
+returns-clause-whole c = whole_sees_seen_tree
+
+pub returns-clause-list : goal.returns-clause-list
+returns-clause-list c = asks_a_scans_list
