@@ -1,6 +1,7 @@
 mod Boards
 mod Bounding
 mod Fetching
+mod Fetches
 mod Firsts
 mod Going
 mod Heard

@@ -1,5 +1,5 @@
 //! The laws. Each is the contract of a function that does nothing.
-ghost use Rattle.scan_laws.specs.Bounds.{ListsAreBounded, RowsAreCounted};
+ghost use Rattle.scan_laws.specs.Bounds.{ListsAreBounded, RowsAreCounted, AsksListsAndFetches, FetchesAreBounded};
 ghost use Rattle.scan_laws.specs.Caches.{FilesAreKnown, LinesStay};
 ghost use Rattle.scan_laws.specs.Meeting.{AsksWhatPointsSay, SeesWhatPointsSay, WholeSeesSeenTree, AsksAScansList};
 ghost use Rattle.scan_laws.specs.Standing.{SeenIsClosed, StampsAreOfFiles};
@@ -20,10 +20,13 @@ pub fn worked_lists()
 {}
 
 /// A scan asks for at most one List more than rows were listed. The rows that count against its limit are all that were listed on the
-/// side, in whatever folders, and they never pass it.
+/// side, in whatever folders, and they never pass it. All else that it asks are Fetches: of each file as many as it has pieces of 65,536
+/// bytes that were read, or one more.
 pub fn lists_and_rows()
     ensures lists { ListsAreBounded }
     ensures rows { RowsAreCounted }
+    ensures both { AsksListsAndFetches }
+    ensures fetches { FetchesAreBounded }
 {}
 
 /// What a scan has seen is closed under parents, so that nothing is seen below an atom other than a folder; and just the paths that
