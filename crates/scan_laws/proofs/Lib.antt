@@ -13,5 +13,7 @@ mod Points
 mod Reading
 mod Seeing
 mod Standing
+mod Staying
 mod Tying
 mod Undisturbed
+mod Whole

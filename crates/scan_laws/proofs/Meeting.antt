@@ -230,19 +230,20 @@ module _ (entries size : ℕ) (rules : List Meaning) (hs : List (Heard Bytes)) (
   wanted_ends_not p WantedNames offset answer h g = list_ends_not p answer h g
   wanted_ends_not p (Content stamp exec) offset answer h g = fetch_ends_not p stamp offset answer h g
 
-module _ (entries size : ℕ) (rules : List Meaning) (before after : ByPath Line) where
-  abbrev lists : List (Heard Bytes) → List (Heard Bytes) → Bool
-  lists hs more = goes_on length entries rules size (spared_by before) hs more
-
-  -- one answer more of a list
-  one_more : (s : ScanState) (t : Told) (hs rest : List (Heard Bytes)) (next : Option Next) → asked_for (length s.begun) next ≡ asked_next length rules size hs (spared_by before)
+-- one answer more of a list
+module _ (entries size : ℕ) (rules : List Meaning) (spares : Names → Stamp → Bool) where
+  pub one_more : (s : ScanState) (t : Told) (hs rest : List (Heard Bytes)) (next : Option Next) → asked_for (length s.begun) next ≡ asked_next length rules size hs spares
       → s.board.rows ≡ rows_heard hs → s.board.rows ≤ entries → IsAnswered (asked_for (length s.begun) next) t.answer → ends_asked entries s.board.rows t.answer next ≡ None
-      → lists (hs ++ heard_as (asked_for (length s.begun) next) t.answer) rest ≡ true → lists hs (heard_as (asked_for (length s.begun) next) t.answer ++ rest) ≡ true
+      → goes_on length entries rules size spares (hs ++ heard_as (asked_for (length s.begun) next) t.answer) rest ≡ true → goes_on length entries rules size spares hs (heard_as (asked_for (length s.begun) next) t.answer ++ rest) ≡ true
   one_more s t hs rest None is counted fits h g rest_is = absurd h
   one_more s t hs rest (Some next) is counted fits h g rest_is =
       let op = asked_at (length s.begun) next.path next.wanted in
       (λ i. (ap (λ o. is_next o op) (sym is) ∙ is_next_itself (length s.begun) next.path next.wanted) i
       && (not (wanted_ends_not entries size rules hs s.board.rows counted fits next.path next.wanted (length s.begun) t.answer h g i) && rest_is i))
+
+module _ (entries size : ℕ) (rules : List Meaning) (before after : ByPath Line) where
+  abbrev lists : List (Heard Bytes) → List (Heard Bytes) → Bool
+  lists hs more = goes_on length entries rules size (spared_by before) hs more
 
   all_listed : (s : ScanState) (ts : List Told) (hs : List (Heard Bytes)) (cache : ByPath Line) → AreTaken entries size s ts → HaveRules rules ts → IsOneCache size s cache ts after → Ready s.board → Tied rules size before cache hs s
       → s.board.rows ≡ rows_heard hs → s.board.rows ≤ entries → lists hs (heard_from size s ts) ≡ true
@@ -252,7 +253,7 @@ module _ (entries size : ℕ) (rules : List Meaning) (before after : ByPath Line
       let steps = told_steps entries size s t taken.0 taken.1 in
       let more : (after_told size s t).board.rows ≡ s.board.rows + rows_heard now = steps.counted in
       let joined : rows_heard (hs ++ now) ≡ rows_heard hs + rows_heard now = rows_join entries size hs now in
-      one_more s t hs (heard_from size (after_told size s t) ts) s.board.next (asks rules size before cache hs s ready tied) counted fits taken.0 taken.1
+      one_more entries size rules (spared_by before) s t hs (heard_from size (after_told size s t) ts) s.board.next (asks rules size before cache hs s ready tied) counted fits taken.0 taken.1
       (all_listed (after_told size s t) ts (hs ++ now) (learns size s t) taken.2 same.1 one.1 (asked_ready size s t s.board.next ready ready.next taken.0)
       (told_ties entries size rules before cache hs s t same.0 one.0 ready tied taken.0 taken.1) (omega arith) (steps.fits fits))
 

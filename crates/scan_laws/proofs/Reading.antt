@@ -36,6 +36,7 @@ use Rattle.scan_laws.proofs.Heard.{Quiet, held_same, row_in, row_same, folder_li
 use Rattle.scan_laws.proofs.Needs.{NeedsNames, NeedsContent, needs_names, needs_content}
 use Rattle.scan_laws.proofs.Points.{Bytes, with_heard, listed_in, fetched_in, held_in, listed-other, listed-here, fetched-list, listed-fetch, fetched-other, fetched-here, problem_of, need_in}
 use Rattle.scan_laws.proofs.Seeing.{itself}
+use Rattle.scan_laws.proofs.Staying.{held_elsewhere, unlisted_child, listed_here, rows_before, file_stays_held, held_as_before}
 
 -- the bytes of a piece
 abbrev pub piece_bytes : Answer Bytes → Bytes
@@ -140,25 +141,6 @@ module _ (rules : List Meaning) (size : ℕ) (before : ByPath Line) (s : RootSta
   unread_learnt : (cache : ByPath Line) (hs : List (Heard Bytes)) (q : Names) → fetched_in rules size hs q ≡ [] → IsLearnt cache hs q
   unread_learnt cache hs q none stamp exec held unmet ended = absurd (let clash : false ≡ true = sym (ap (list_any is_last) none) ∙ ended in cc)
 
-  -- a path at which something is held wasn't the child of a folder that wasn't listed
-  held_elsewhere : (hs : List (Heard Bytes)) (quiet : Quiet rules size hs) (q f : Names) (e : Entry) → held_in rules size hs q ≡ Some e → parent_of q ≡ Some f → listed_in rules size hs f ≡ None → ⊥
-  held_elsewhere hs quiet q f e held up none =
-      elim (root_or_child q) [
-        | inl is_root ↦ (let clash : None ≡ Some f = ap parent_of (sym is_root) ∙ up in absurd (cc))
-        | inr child ↦
-          (let folder : child.0 ≡ f = ap (λ (o : Option Names). unwrap_or o child.0) (sym (parent-child child.0 child.1) ∙ ap parent_of (sym child.2) ∙ up) in
-          folder_listed rules size hs quiet child.0 child.1 e (ap (held_in rules size hs) (sym child.2) ∙ held) (ap (listed_in rules size hs) folder ∙ none))
-      ]
-
-  unlisted_child : (hs : List (Heard Bytes)) (quiet : Quiet rules size hs) (q f : Names) → parent_of q ≡ Some f → listed_in rules size hs f ≡ None → listed_in rules size hs q ≡ None
-  unlisted_child hs quiet q f up none =
-      elim (root_or_child q) [
-        | inl is_root ↦ (let clash : None ≡ Some f = ap parent_of (sym is_root) ∙ up in absurd (cc))
-        | inr child ↦
-          (let folder : child.0 ≡ f = ap (λ (o : Option Names). unwrap_or o child.0) (sym (parent-child child.0 child.1) ∙ ap parent_of (sym child.2) ∙ up) in
-          ap (listed_in rules size hs) child.2 ∙ quiet.unlisted child.0 child.1 (ap (listed_in rules size hs) folder ∙ none))
-      ]
-
   -- ---- the answer to a List
 
   module _ (cache : ByPath Line) (hs : List (Heard Bytes)) (reads : Reads cache hs) (quiet : Quiet rules size hs) (p : Names) (answer : Answer Bytes)
@@ -169,27 +151,8 @@ module _ (rules : List Meaning) (size : ℕ) (before : ByPath Line) (s : RootSta
     elsewhere : (q : Names) → eq_by_cmp path_cmp q p ≡ false → listed_in rules size listed_too q ≡ listed_in rules size hs q
     elsewhere q apart = listed-other rules size hs p answer q apart
 
-    here : listed_in rules size listed_too p ≡ Some answer
-    here = listed-here rules size hs p answer needs.unlisted (itself p)
-
-    -- the rows of a path's folder are as before, unless the path is one of these children
-    rows_before : (q : Names) → (parent_of q ≡ Some p → ⊥) → (f : Names) → parent_of q ≡ Some f → rows_of (listed_in rules size listed_too f) ≡ rows_of (listed_in rules size hs f)
-    rows_before q no_child f up =
-        elim (eq_by_cmp path_cmp f p) as (λ c. eq_by_cmp path_cmp f p ≡ c → rows_of (listed_in rules size listed_too f) ≡ rows_of (listed_in rules size hs f)) [
-          | true ↦ λ e. absurd (no_child (up ∙ ap (λ (x : Names). Some x) (tie_is f p e)))
-          | false ↦ λ e. ap rows_of (elsewhere f e)
-        ] refl
-
-    not_file : (q : Names) (stamp : Stamp) (exec : Bool) → held_in rules size hs q ≡ Some (entry.File stamp exec) → eq_by_cmp path_cmp q p ≡ false
-    not_file q stamp exec held =
-        elim (eq_by_cmp path_cmp q p) as (λ c. eq_by_cmp path_cmp q p ≡ c → c ≡ false) [
-          | true ↦ λ e. absurd (let clash : Some (entry.File stamp exec) ≡ Some entry.Dir = sym held ∙ ap (held_in rules size hs) (tie_is q p e) ∙ needs.held_is in cc)
-          | false ↦ λ e. refl
-        ] refl
-
     file_stays : (q : Names) (stamp : Stamp) (exec : Bool) → held_in rules size hs q ≡ Some (entry.File stamp exec) → held_in rules size listed_too q ≡ held_in rules size hs q
-    file_stays q stamp exec held =
-        held_same rules size hs listed_too q (rows_before q (λ up. held_elsewhere hs quiet q p (entry.File stamp exec) held up needs.unlisted)) (elsewhere q (not_file q stamp exec held))
+    file_stays q stamp exec held = file_stays_held rules size before hs quiet p answer needs q stamp exec held
 
     list_read : (q : Names) → IsRead hs q → IsRead listed_too q
     list_read q (inl none) = inl (fetched-list rules size hs p answer q ∙ none)
@@ -209,14 +172,14 @@ module _ (rules : List Meaning) (size : ℕ) (before : ByPath Line) (s : RootSta
     list_folder q h =
         elim (eq_by_cmp path_cmp q p) as (λ c. eq_by_cmp path_cmp q p ≡ c → WasFolder listed_too q) [
           | true ↦ λ e. subst (WasFolder listed_too) (sym (tie_is q p e)) (record {
-            row_is = row_same rules size hs listed_too p (rows_before p (λ up. held_elsewhere hs quiet p p entry.Dir needs.held_is up needs.unlisted)) ∙ own_row;
+            row_is = row_same rules size hs listed_too p (rows_before rules size before hs quiet p answer needs p (λ up. held_elsewhere rules size hs quiet p p entry.Dir needs.held_is up needs.unlisted)) ∙ own_row;
             followed = needs.followed;
-            answer_is = λ a is. same_answer a answer (sym is ∙ here) ∙ on;
+            answer_is = λ a is. same_answer a answer (sym is ∙ listed_here rules size before hs quiet p answer needs) ∙ on;
           })
           | false ↦ λ e.
               let was = reads.folders q (ap is_some (sym (elsewhere q e)) ∙ h) in
               record {
-                row_is = row_same rules size hs listed_too q (rows_before q (λ up. absurd (let clash : false ≡ true = sym (ap is_some (elsewhere q e ∙ unlisted_child hs quiet q p up needs.unlisted)) ∙ h in cc))) ∙ was.row_is;
+                row_is = row_same rules size hs listed_too q (rows_before rules size before hs quiet p answer needs q (λ up. absurd (let clash : false ≡ true = sym (ap is_some (elsewhere q e ∙ unlisted_child rules size hs quiet q p up needs.unlisted)) ∙ h in cc))) ∙ was.row_is;
                 followed = was.followed;
                 answer_is = λ a is. was.answer_is a (sym (elsewhere q e) ∙ is);
               }
@@ -250,7 +213,7 @@ module _ (rules : List Meaning) (size : ℕ) (before : ByPath Line) (s : RootSta
     as_listed q = listed-fetch rules size hs p answer stamp (length begun) q
 
     as_held : (q : Names) → held_in rules size fetched_too q ≡ held_in rules size hs q
-    as_held q = held_same rules size hs fetched_too q (λ f up. ap rows_of (as_listed f)) (as_listed q)
+    as_held q = held_as_before rules size hs p answer stamp (length begun) q
 
     grown : fetched_in rules size fetched_too p ≡ fetched_in rules size hs p ++ answer ∷ []
     grown = fetched-here rules size hs p answer stamp (length begun) (itself p)

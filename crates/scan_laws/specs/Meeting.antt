@@ -1,5 +1,5 @@
 -- A scan asks and sees what the points say.
-use Rattle.std.specs.Prelude.{◌≡◌, ℕ, true, List, [], ◌∷◌, length, unwrap_or, Option, None, is_some, ⊤, Bool}
+use Rattle.std.specs.Prelude.{◌≡◌, ℕ, true, List, [], ◌∷◌, length, unwrap_or, Option, None, is_some, ⊤, Bool, not}
 use Rattle.std.specs.FinMap as map
 use Rattle.entry_tree.specs.Tree.{Names, ByPath}
 use Rattle.entry_tree.specs.declared.entry.Stamp.{Stamp}
@@ -10,7 +10,7 @@ use Rattle.scan_core.specs.Scan.{ScanTold, new_state, state_of, asked}
 use Rattle.scan_core.specs.Told.{Told}
 use Rattle.scan_laws.specs.Bounds.{IsTaken, heard_by}
 use Rattle.scan_laws.specs.Caches.{IsOneCache}
-use Rattle.scan_laws.specs.ScanLists.{is_scan_list}
+use Rattle.scan_laws.specs.ScanLists.{is_scan_list, is_whole_list, is_whole_scan}
 use Rattle.scan_laws.specs.Seen.{asked_next, seen_at, seen_so_far}
 
 -- all takes were given these rules
@@ -55,3 +55,15 @@ abbrev pub AsksAScansList : Type 0
 AsksAScansList =
     (m : ScanTold) (rules : List Meaning) (before after : ByPath Line) → IsScanned m rules before after
     → is_scan_list length m.entries rules m.size (spared_by before) (heard_by m) ≡ true
+
+-- It is a whole list exactly where nothing is asked next.
+abbrev pub WholeHasNoNext : Type 0
+WholeHasNoNext =
+    (m : ScanTold) (rules : List Meaning) (before after : ByPath Line) → IsScanned m rules before after
+    → is_whole_list length m.entries rules m.size (spared_by before) (heard_by m) ≡ not (is_some (asked (state_of m)))
+
+-- Then it is a whole scan, by the list alone.
+abbrev pub WholeIsWholeScan : Type 0
+WholeIsWholeScan =
+    (m : ScanTold) (rules : List Meaning) (before after : ByPath Line) → IsScanned m rules before after → asked (state_of m) ≡ None
+    → is_whole_scan length m.entries rules m.size (heard_by m) ≡ true

@@ -1,7 +1,7 @@
 //! The laws. Each is the contract of a function that does nothing.
 ghost use Rattle.scan_laws.specs.Bounds.{ListsAreBounded, RowsAreCounted, AsksListsAndFetches, FetchesAreBounded};
 ghost use Rattle.scan_laws.specs.Caches.{FilesAreKnown, LinesStay};
-ghost use Rattle.scan_laws.specs.Meeting.{AsksWhatPointsSay, SeesWhatPointsSay, WholeSeesSeenTree, AsksAScansList};
+ghost use Rattle.scan_laws.specs.Meeting.{AsksWhatPointsSay, SeesWhatPointsSay, WholeSeesSeenTree, AsksAScansList, WholeHasNoNext, WholeIsWholeScan};
 ghost use Rattle.scan_laws.specs.Standing.{SeenIsClosed, StampsAreOfFiles};
 ghost use Rattle.scan_laws.specs.Undisturbed.{UndisturbedSeesLook};
 ghost use Rattle.scan_laws.specs.Worked.{FileIsSeen, LargeFileIsProblem, ChangedFileIsProblem, FolderBecameFile, IgnoredIsUntracked, OrderIsPathOrder, EndsAtLimit};
@@ -45,12 +45,15 @@ pub fn one_cache()
 
 /// Where all takes were given the same rules and one cache, which nothing else changed between them, a scan asks and sees what the
 /// points say: what is asked next is the first path, in path order, of which something is still needed; what has been seen is the
-/// seen tree as far as it is settled, and all of it once nothing is left to ask. What was asked is a scan's list.
+/// seen tree as far as it is settled, and all of it once nothing is left to ask. What was asked is a scan's list, and a whole one
+/// exactly where nothing is asked next; then it is a whole scan, which can be told from the list alone.
 pub fn points_of_scans()
     ensures asks { AsksWhatPointsSay }
     ensures sees { SeesWhatPointsSay }
     ensures whole { WholeSeesSeenTree }
     ensures list { AsksAScansList }
+    ensures next { WholeHasNoNext }
+    ensures scan { WholeIsWholeScan }
 {}
 
 /// A whole scan of a root on which nothing changed, and no call failed, saw the root's look: the lines that the cache had for the
