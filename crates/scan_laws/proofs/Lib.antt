@@ -1,6 +1,7 @@
 mod Boards
 mod Bounding
 mod Fetching
+mod Counting
 mod Fetches
 mod Firsts
 mod Going
@@ -11,6 +12,7 @@ mod Meeting
 mod Needs
 mod Points
 mod Reading
+mod Rows
 mod Seeing
 mod Standing
 mod Staying

@@ -69,12 +69,12 @@ reached_behind rules before (x ∷ names) n =
     ∙ and_again (not (ignores rules before true)) (is_reached_from rules (before ++ x ∷ []) names) (not (ignores rules ((before ++ x ∷ []) ++ names) true))
     ∙ ap (λ (l : Names). (not (ignores rules before true) && is_reached_from rules (before ++ x ∷ []) names) && not (ignores rules l true)) (append_assoc before (x ∷ []) names)
 
-reached_child : (rules : List Meaning) (f : Names) (n : List ℕ) → is_reached rules (f ++ n ∷ []) ≡ (is_reached rules f && not (ignores rules f true))
+pub reached_child : (rules : List Meaning) (f : Names) (n : List ℕ) → is_reached rules (f ++ n ∷ []) ≡ (is_reached rules f && not (ignores rules f true))
 reached_child rules f n = reached_behind rules [] f n
 
 -- ---- children
 
-name_of_child : (p : Names) (n : List ℕ) → name_below (p ++ n ∷ []) p ≡ Some n
+pub name_of_child : (p : Names) (n : List ℕ) → name_below (p ++ n ∷ []) p ≡ Some n
 name_of_child [] n = refl
 name_of_child (x ∷ p) n = ap (λ b. cond b (name_below (p ++ n ∷ []) p) None) (name_itself x) ∙ name_of_child p n
 
@@ -99,14 +99,14 @@ child_found p n (e ∷ es) =
 child_is : (tree : ByPath Entry) (p : Names) (n : List ℕ) → map.get tree (p ++ n ∷ []) ≡ row_named n (children_below tree p)
 child_is tree p n = map.get-entries tree (p ++ n ∷ []) ∙ child_found p n (map.entries tree)
 
-nothing_at : (tree : ByPath Entry) (p : Names) (n : List ℕ) → IsClosed is_dir tree → holds_folder is_dir (map.get tree p) ≡ false → map.get tree (p ++ n ∷ []) ≡ None
+pub nothing_at : (tree : ByPath Entry) (p : Names) (n : List ℕ) → IsClosed is_dir tree → holds_folder is_dir (map.get tree p) ≡ false → map.get tree (p ++ n ∷ []) ≡ None
 nothing_at tree p n closed no_folder =
     elim (map.get tree (p ++ n ∷ [])) as (λ o. map.get tree (p ++ n ∷ []) ≡ o → o ≡ None) [
       | None ↦ λ e. refl
       | Some x ↦ λ e. absurd (let h : false ≡ true = sym no_folder ∙ closed p n (ap (λ (o : Option Entry). is_some o) e) in cc)
     ] refl
 
-folder_is : (o : Option Entry) → holds_folder is_dir o ≡ true → o ≡ Some entry.Dir
+pub folder_is : (o : Option Entry) → holds_folder is_dir o ≡ true → o ≡ Some entry.Dir
 folder_is None h = absurd (cc)
 folder_is (Some entry.Dir) h = refl
 folder_is (Some (entry.File stamp exec)) h = absurd (cc)
@@ -133,7 +133,7 @@ module _ (rules : List Meaning) (size : ℕ) (before after : ByPath Line) (s : R
         | false ↦ λ e. sym (nothing_at s.tree f n closed e)
       ] refl
 
-  unlisted_folder : (q : Names) → listed_in rules size hs q ≡ None → held_in rules size hs q ≡ Some entry.Dir → ignores rules q true ≡ false → ⊥
+  pub unlisted_folder : (q : Names) → listed_in rules size hs q ≡ None → held_in rules size hs q ≡ Some entry.Dir → ignores rules q true ≡ false → ⊥
   unlisted_folder q none held followed =
       let needed : need_in rules size (spared_by before) hs q ≡ Some WantedNames =
       (λ i. need rules size (spared_by before) q (none i) (fetched_in rules size hs q) (held i)) ∙ ap (λ c. cond c None (Some WantedNames)) followed in
@@ -195,7 +195,7 @@ module _ (rules : List Meaning) (size : ℕ) (before after : ByPath Line) (s : R
       ] refl;
     }
 
-  all_reached : (k : ℕ) (q : Names) → length q < k → Reached q
+  pub all_reached : (k : ℕ) (q : Names) → length q < k → Reached q
   all_reached zero q short = absurd (omega arith)
   all_reached (suc k) q short =
       let smaller = all_reached k in

@@ -233,11 +233,11 @@ module _ (rules : List Meaning) (size : ℕ) (before : ByPath Line) (s : RootSta
     asked_kept None is course begun_is h g tie = absurd h
     asked_kept (Some next) is course begun_is h g tie = wanted_kept next.path next.wanted is course begun_is h g tie
 
-  on_front : (xs ys : List (Heard Bytes)) → AnsweredOn s id (xs ++ ys) → AnsweredOn s id xs
+  pub on_front : (xs ys : List (Heard Bytes)) → AnsweredOn s id (xs ++ ys) → AnsweredOn s id xs
   on_front [] ys on = tt
   on_front (x ∷ xs) ys on = (on.0, on_front xs ys on.1)
 
-  on_back : (xs ys : List (Heard Bytes)) → AnsweredOn s id (xs ++ ys) → AnsweredOn s id ys
+  pub on_back : (xs ys : List (Heard Bytes)) → AnsweredOn s id (xs ++ ys) → AnsweredOn s id ys
   on_back [] ys on = on
   on_back (x ∷ xs) ys on = on_back xs ys on.1
 

@@ -3,7 +3,7 @@ ghost use Rattle.scan_laws.specs.Bounds.{ListsAreBounded, RowsAreCounted, AsksLi
 ghost use Rattle.scan_laws.specs.Caches.{FilesAreKnown, LinesStay};
 ghost use Rattle.scan_laws.specs.Meeting.{AsksWhatPointsSay, SeesWhatPointsSay, WholeSeesSeenTree, AsksAScansList, WholeHasNoNext, WholeIsWholeScan};
 ghost use Rattle.scan_laws.specs.Standing.{SeenIsClosed, StampsAreOfFiles};
-ghost use Rattle.scan_laws.specs.Undisturbed.{UndisturbedSeesLook};
+ghost use Rattle.scan_laws.specs.Undisturbed.{EndsByRowsAlone, UndisturbedSeesLook, WholeListsLookRows};
 ghost use Rattle.scan_laws.specs.Worked.{FileIsSeen, LargeFileIsProblem, ChangedFileIsProblem, FolderBecameFile, IgnoredIsUntracked, OrderIsPathOrder, EndsAtLimit};
 
 /// Small lists, as examples of the definitions: a file that is read in two pieces; one of more bytes than it may have; one that
@@ -57,7 +57,10 @@ pub fn points_of_scans()
 {}
 
 /// A whole scan of a root on which nothing changed, and no call failed, saw the root's look: the lines that the cache had for the
-/// files of that state, path and stamp, are of their contents.
+/// files of that state, path and stamp, are of their contents. It listed just the entries that stand in folders which the rules don't
+/// ignore. A scan of such a root ends before it is whole for one reason alone: these are more than a side may have.
 pub fn undisturbed_scans()
     ensures look { UndisturbedSeesLook }
+    ensures rows { WholeListsLookRows }
+    ensures ends { EndsByRowsAlone }
 {}
