@@ -8,7 +8,7 @@ use Rattle.sha2.specs.Sha256.{sha256}
 use Rattle.scan_core.specs.Board.{shows_file}
 use Rattle.roots_api.specs.declared.answer.Answer.{Answer}
 use Rattle.roots_api.specs.declared.answer.Answer.TheVariants.{Listed, Held, Piece, Changed, TooLarge, Cleared, Opened, Kept, NotStaged, DigestDiffers, Done, NoParent, Differs, NoLink, NoExec, NotEmpty, Full, Failed}
-use Rattle.scan_core.specs.Scan.{ScanState, new_state, state_of, with_problem, file_done, after_piece, after_fetch, after_asked, after_told, after_all}
+use Rattle.scan_core.specs.Scan.{ScanState, new_state, state_of, asked, with_problem, file_done, after_piece, after_fetch, after_asked, after_told, after_all, ends_by, IsAnswered, AreTaken}
 use Rattle.scan_core.specs.Told.{Told}
 use Rattle.scan_core.specs.Work.{IsWork, IsScan, with_begun}
 use Rattle.scan_core.specs.declared.board.Board.{Board}
@@ -61,13 +61,21 @@ asked_small size s t (Some next) h = wanted_small size s t next.path next.wanted
 pub told_small : (size : ℕ) (s : ScanState) (t : Told) → length s.begun ≤ size → length (after_told size s t).begun ≤ size
 told_small size s t h = asked_small size s t s.board.next h
 
+-- one answer more is taken
+pub taken_push : (entries size : ℕ) (s : ScanState) (ts : List Told) (t : Told) → AreTaken entries size s ts → IsAnswered (asked (after_all size s ts)) t.answer → ends_by entries (after_all size s ts) t.answer ≡ None
+    → AreTaken entries size s (ts ++ t ∷ [])
+taken_push entries size s [] t taken answered on = (answered, on, tt)
+taken_push entries size s (u ∷ ts) t taken answered on = (taken.0, taken.1, taken_push entries size (after_told size s u) ts t taken.2 answered on)
+
 -- a scan that was told one answer more
 pub told_more : (entries size : ℕ) (work after : Work) (told more : List Told) (t : Told) → IsScan entries size work told → more ≡ told ++ t ∷ []
+    → IsAnswered (asked (state_of (record { entries = entries; size = size; told = told }))) t.answer → ends_by entries (state_of (record { entries = entries; size = size; told = told })) t.answer ≡ None
     → IsWork (after_told size (state_of (record { entries = entries; size = size; told = told })) t) after → IsScan entries size after more
-told_more entries size work after told more t old is new =
+told_more entries size work after told more t old is answered on new =
     let grown = after_all-push size new_state told t in
     subst (IsScan entries size after) (sym is) (record {
       work_is = subst (λ s. IsWork s after) (sym grown) new;
+      taken = taken_push entries size new_state told t old.taken answered on;
       limit = old.limit;
       small = subst (λ (s : ScanState). length s.begun ≤ size) (sym grown) (told_small size (after_all size new_state told) t old.small);
     })

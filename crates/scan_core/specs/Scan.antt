@@ -1,5 +1,5 @@
 -- A scan: what it asks next, when it ends, and what it has seen, by what it was told.
-use Rattle.std.specs.Prelude.{◌≡◌, ◌⊎◌, ℕ, ◌+◌, Bool, cond, List, [], ◌∷◌, ◌++◌, length, nat_lt, Option, Some, None, Result, Ok, Err}
+use Rattle.std.specs.Prelude.{◌≡◌, ◌⊎◌, ℕ, ◌+◌, Bool, cond, List, [], ◌∷◌, ◌++◌, length, nat_lt, Option, Some, None, Result, Ok, Err, ⊤}
 use Rattle.sha2.specs.Sha256.{sha256}
 use Rattle.entry_tree.specs.Tree.{Names, ByPath}
 use Rattle.entry_tree.specs.declared.atom.Atom.TheVariants as atom
@@ -166,6 +166,15 @@ learns size s t = learns_asked size s.begun t s.board.next
 abbrev pub IsAnswered : Option Op → Answer (List ℕ) → Type 0
 IsAnswered None answer = ⊥
 IsAnswered (Some op) answer = IsAnswerTo op answer
+
+-- each answer is one to what is asked there, by its row, and ends nothing
+abbrev pub AreTaken : ℕ → ℕ → ScanState → List Told → Type 0
+AreTaken entries size s [] = ⊤
+AreTaken entries size s (t ∷ ts) = IsAnswered (asked s) t.answer × (ends_by entries s t.answer ≡ None) × AreTaken entries size (after_told size s t) ts
+
+-- a scan can have been told this
+abbrev pub IsTaken : ScanTold → Type 0
+IsTaken m = AreTaken m.entries m.size new_state m.told
 
 -- the scan with one answer more
 abbrev pub with_told : ScanTold → Told → ScanTold

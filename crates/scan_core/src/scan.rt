@@ -3,7 +3,7 @@ ghost use Rattle.std.specs.Prelude.{◌≡◌, ◌≤◌, [], IfOk, OnErr, IsTru
 ghost use Rattle.entry_tree.specs.Atom.{is_dir};
 ghost use Rattle.entry_tree.specs.Tree.{IsClosed};
 ghost use Rattle.roots_api.specs.declared.limits.TheConstants.{MAX_FETCH};
-ghost use Rattle.scan_core.specs.Scan.{asked, new_scan, new_state, state_of, IsAnswered, Takes as TakesTo};
+ghost use Rattle.scan_core.specs.Scan.{asked, new_scan, new_state, state_of, IsAnswered, IsTaken, Takes as TakesTo};
 ghost use Rattle.scan_core.specs.Work.{IsWork};
 
 use crate::scan_end::ScanEnd;
@@ -111,10 +111,12 @@ impl Scan {
         }
     }
 
-    /// What was seen so far. It takes no memory.
+    /// What was seen so far. It takes no memory. What the scan was told is what a scan can be told: each answer was one to what was
+    /// asked, and ended nothing.
     pub fn seen(&self) -> &Tree
         ensures value { result.now ≡ (state_of self.now).board.seen }
         ensures closed { IsClosed is_dir result.now }
+        ensures taken { IsTaken self.now }
     {
         let seen = &self.work.board.seen;
         let _ = seen.iter();

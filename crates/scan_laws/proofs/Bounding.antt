@@ -17,14 +17,14 @@ use Rattle.roots_api.specs.declared.answer.Answer.TheVariants.{Listed, Held, Pie
 use Rattle.scan_cache.specs.Cache.{digest_for}
 use Rattle.scan_cache.specs.declared.line.Line.{Line}
 use Rattle.scan_core.specs.Board.{shows, shows_file, left_alone, placed_file, placed_as, placed, with_row, with_rows, counts, advanced}
-use Rattle.scan_core.specs.Scan.{ScanState, new_state, state_of, asked, asked_for, asked_at, after_list, after_piece, after_fetch, after_wanted, after_asked, after_told, after_all, with_problem, file_done, ends_list, ends_wanted, ends_asked, ends_by, IsAnswered}
+use Rattle.scan_core.specs.Scan.{ScanState, new_state, state_of, asked, asked_for, asked_at, after_list, after_piece, after_fetch, after_wanted, after_asked, after_told, after_all, with_problem, file_done, ends_list, ends_wanted, ends_asked, ends_by, IsAnswered, AreTaken}
 use Rattle.scan_core.specs.Told.{Told}
 use Rattle.scan_core.specs.declared.board.Board.{Board}
 use Rattle.scan_core.specs.declared.scan_end.ScanEnd.TheVariants as end
 use Rattle.scan_core.specs.declared.wanted.Next.{Next}
 use Rattle.scan_core.specs.declared.wanted.Wanted.{Wanted}
 use Rattle.scan_core.specs.declared.wanted.Wanted.TheVariants.{Names as WantedNames, Content}
-use Rattle.scan_laws.specs.Bounds.{heard_as, heard_from, heard_by, AreTaken, lists_in, ListsAreBounded, RowsAreCounted}
+use Rattle.scan_laws.specs.Bounds.{heard_as, heard_from, heard_by, lists_in, ListsAreBounded, RowsAreCounted}
 use Rattle.scan_laws.specs.ScanLists.{rows_heard}
 use Rattle.scan_laws.specs.Seen.{Heard}
 use Rattle.scan_laws.proofs.Firsts.{one_next, to_list, pending, names_insert, advanced_pending, nothing_later}

@@ -11,13 +11,13 @@ use Rattle.roots_api.specs.declared.answer.Answer.TheVariants.{Listed, Held, Pie
 use Rattle.roots_api.specs.declared.limits.TheConstants.{MAX_PIECE}
 use Rattle.roots_api.specs.declared.op.Op.TheVariants.{List as OpList, Fetch}
 use Rattle.scan_core.specs.Board.{shows_file}
-use Rattle.scan_core.specs.Scan.{ScanState, ScanTold, new_state, asked, asked_for, asked_at, after_piece, after_fetch, after_wanted, after_asked, after_told, after_all, with_problem, file_done, ends_fetch, ends_wanted, ends_asked, ends_by, IsAnswered}
+use Rattle.scan_core.specs.Scan.{ScanState, ScanTold, new_state, asked, asked_for, asked_at, after_piece, after_fetch, after_wanted, after_asked, after_told, after_all, with_problem, file_done, ends_fetch, ends_wanted, ends_asked, ends_by, IsAnswered, AreTaken}
 use Rattle.scan_core.specs.Told.{Told}
 use Rattle.scan_core.specs.declared.board.Board.{Board}
 use Rattle.scan_core.specs.declared.wanted.Next.{Next}
 use Rattle.scan_core.specs.declared.wanted.Wanted.{Wanted}
 use Rattle.scan_core.specs.declared.wanted.Wanted.TheVariants.{Names as WantedNames, Content}
-use Rattle.scan_laws.specs.Bounds.{heard_as, heard_from, heard_by, AreTaken, lists_in, fetches_in, files_in, bytes_in, FetchesAreBounded, AsksListsAndFetches}
+use Rattle.scan_laws.specs.Bounds.{heard_as, heard_from, heard_by, lists_in, fetches_in, files_in, bytes_in, FetchesAreBounded, AsksListsAndFetches}
 use Rattle.scan_laws.specs.Seen.{Heard, piece_len}
 
 -- one, where bytes of a file are kept, so that a Fetch goes on with it

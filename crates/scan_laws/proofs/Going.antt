@@ -23,13 +23,13 @@ use Rattle.scan_cache.specs.Cache.{with_line}
 use Rattle.scan_cache.specs.declared.line.Line.{Line}
 use Rattle.scan_core.specs.Board.{new_board, shows_file}
 use Rattle.scan_core.specs.Ignoring.{verdict, ignores, or_else, says_so}
-use Rattle.scan_core.specs.Scan.{ScanState, new_state, asked, asked_for, asked_at, after_list, after_piece, after_fetch, after_wanted, after_asked, after_told, after_all, with_problem, file_done, ends_list, ends_fetch, ends_wanted, ends_asked, ends_by, learns_piece, learns_fetch, learns_wanted, learns_asked, learns, IsAnswered}
+use Rattle.scan_core.specs.Scan.{ScanState, new_state, asked, asked_for, asked_at, after_list, after_piece, after_fetch, after_wanted, after_asked, after_told, after_all, with_problem, file_done, ends_list, ends_fetch, ends_wanted, ends_asked, ends_by, learns_piece, learns_fetch, learns_wanted, learns_asked, learns, IsAnswered, AreTaken}
 use Rattle.scan_core.specs.Told.{Told}
 use Rattle.scan_core.specs.declared.board.Board.{Board}
 use Rattle.scan_core.specs.declared.wanted.Next.{Next}
 use Rattle.scan_core.specs.declared.wanted.Wanted.{Wanted}
 use Rattle.scan_core.specs.declared.wanted.Wanted.TheVariants.{Names as WantedNames, Content}
-use Rattle.scan_laws.specs.Bounds.{heard_as, heard_from, AreTaken}
+use Rattle.scan_laws.specs.Bounds.{heard_as, heard_from}
 use Rattle.scan_laws.specs.Caches.{IsOneCache}
 use Rattle.scan_laws.specs.Meeting.{HaveRules, spared_by}
 use Rattle.scan_laws.specs.Seen.{Heard, is_last, piece_len}

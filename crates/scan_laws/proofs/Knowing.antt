@@ -27,13 +27,12 @@ use Rattle.roots_api.specs.declared.answer.Answer.TheVariants.{Listed, Held, Pie
 use Rattle.scan_cache.specs.Cache.{digest_for, line_of, with_line}
 use Rattle.scan_cache.specs.declared.line.Line.{Line}
 use Rattle.scan_core.specs.Board.{new_board, may_stand, shows, shows_file, asks, left_alone, placed_file, placed_as, placed, with_row, with_rows, advanced}
-use Rattle.scan_core.specs.Scan.{ScanState, new_state, asked_for, asked_at, after_list, after_piece, after_fetch, after_wanted, after_asked, after_told, after_all, with_problem, file_done, learns_piece, learns_fetch, learns_wanted, learns_asked, learns, IsAnswered}
+use Rattle.scan_core.specs.Scan.{ScanState, new_state, asked_for, asked_at, after_list, after_piece, after_fetch, after_wanted, after_asked, after_told, after_all, with_problem, file_done, learns_piece, learns_fetch, learns_wanted, learns_asked, learns, IsAnswered, AreTaken}
 use Rattle.scan_core.specs.declared.board.Board.{Board}
 use Rattle.scan_core.specs.Told.{Told}
 use Rattle.scan_core.specs.declared.wanted.Next.{Next}
 use Rattle.scan_core.specs.declared.wanted.Wanted.{Wanted}
 use Rattle.scan_core.specs.declared.wanted.Wanted.TheVariants.{Names as WantedNames, Content}
-use Rattle.scan_laws.specs.Bounds.{AreTaken}
 use Rattle.scan_laws.specs.Caches.{IsOneCache, LinesStay, FilesAreKnown}
 use Rattle.scan_laws.specs.Standing.{is_file}
 use Rattle.scan_laws.proofs.Seeing.{Ready, NextOpen, row_goes, still_open, listed, listed_stands, children_open, asked_ready, new_ready, itself}

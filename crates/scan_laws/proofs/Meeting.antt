@@ -25,14 +25,14 @@ use Rattle.roots_api.specs.declared.op.Op.{Op}
 use Rattle.roots_api.specs.declared.op.Op.TheVariants.{List as OpList, Fetch}
 use Rattle.scan_cache.specs.Cache.{digest_for}
 use Rattle.scan_cache.specs.declared.line.Line.{Line}
-use Rattle.scan_core.specs.Scan.{ScanState, ScanTold, new_state, state_of, asked, asked_for, asked_at, after_told, after_all, ends_list, ends_fetch, ends_wanted, ends_asked, ends_by, learns, IsAnswered}
+use Rattle.scan_core.specs.Scan.{ScanState, ScanTold, new_state, state_of, asked, asked_for, asked_at, after_told, after_all, ends_list, ends_fetch, ends_wanted, ends_asked, ends_by, learns, IsAnswered, AreTaken}
 use Rattle.scan_core.specs.Told.{Told}
 use Rattle.scan_core.specs.declared.board.Board.{Board}
 use Rattle.scan_core.specs.declared.scan_end.ScanEnd.TheVariants as end
 use Rattle.scan_core.specs.declared.wanted.Next.{Next}
 use Rattle.scan_core.specs.declared.wanted.Wanted.{Wanted}
 use Rattle.scan_core.specs.declared.wanted.Wanted.TheVariants.{Names as WantedNames, Content}
-use Rattle.scan_laws.specs.Bounds.{heard_as, heard_from, heard_by, AreTaken}
+use Rattle.scan_laws.specs.Bounds.{heard_as, heard_from, heard_by}
 use Rattle.scan_laws.specs.Caches.{IsOneCache}
 use Rattle.scan_laws.specs.Meeting.{HaveRules, IsScanned, spared_by, digest_in, AsksWhatPointsSay, SeesWhatPointsSay, WholeSeesSeenTree, AsksAScansList}
 use Rattle.scan_laws.specs.ScanLists.{is_next, is_list, rows_heard, is_end, goes_on}

@@ -30,13 +30,12 @@ use Rattle.roots_api.specs.declared.answer.Answer.{Answer}
 use Rattle.roots_api.specs.declared.answer.Answer.TheVariants.{Listed, Held, Piece, Changed, TooLarge, Cleared, Opened, Kept, NotStaged, DigestDiffers, Done, NoParent as NoParentAnswer, Differs, NoLink, NoExec, NotEmpty, Full, Failed}
 use Rattle.scan_cache.specs.declared.line.Line.{Line}
 use Rattle.scan_core.specs.Board.{new_board, shows, shows_file, placed, with_row, with_rows, counts, first_in, without_in, advanced}
-use Rattle.scan_core.specs.Scan.{ScanState, new_state, asked_for, asked_at, after_list, after_piece, after_fetch, after_wanted, after_asked, after_told, after_all, with_problem, file_done, IsAnswered}
+use Rattle.scan_core.specs.Scan.{ScanState, new_state, asked_for, asked_at, after_list, after_piece, after_fetch, after_wanted, after_asked, after_told, after_all, with_problem, file_done, IsAnswered, AreTaken}
 use Rattle.scan_core.specs.Told.{Told}
 use Rattle.scan_core.specs.declared.board.Board.{Board}
 use Rattle.scan_core.specs.declared.wanted.Next.{Next}
 use Rattle.scan_core.specs.declared.wanted.Wanted.{Wanted}
 use Rattle.scan_core.specs.declared.wanted.Wanted.TheVariants.{Names as WantedNames, Content}
-use Rattle.scan_laws.specs.Bounds.{AreTaken}
 use Rattle.scan_laws.specs.Standing.{is_file, SeenIsClosed, StampsAreOfFiles}
 use Rattle.scan_laws.proofs.Standing.{Wantable, Stands, IsOpen, Goes, shown_at, shows_stands, file_stands, placed_goes}
 

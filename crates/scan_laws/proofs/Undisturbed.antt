@@ -36,12 +36,12 @@ use Rattle.scan_cache.specs.Cache.{digest_for, line_of, with_line}
 use Rattle.scan_cache.specs.declared.line.Line.{Line}
 use Rattle.scan_core.specs.Board.{left_alone}
 use Rattle.scan_core.specs.Ignoring.{ignores}
-use Rattle.scan_core.specs.Scan.{ScanState, ScanTold, new_state, state_of, asked, asked_for, asked_at, after_piece, after_fetch, after_wanted, after_asked, after_told, after_all, with_problem, file_done, ends_asked, ends_wanted, ends_fetch, ends_by, learns_piece, learns_fetch, learns_wanted, learns_asked, learns, IsAnswered}
+use Rattle.scan_core.specs.Scan.{ScanState, ScanTold, new_state, state_of, asked, asked_for, asked_at, after_piece, after_fetch, after_wanted, after_asked, after_told, after_all, with_problem, file_done, ends_asked, ends_wanted, ends_fetch, ends_by, learns_piece, learns_fetch, learns_wanted, learns_asked, learns, IsAnswered, AreTaken}
 use Rattle.scan_core.specs.Told.{Told}
 use Rattle.scan_core.specs.declared.wanted.Next.{Next}
 use Rattle.scan_core.specs.declared.wanted.Wanted.{Wanted}
 use Rattle.scan_core.specs.declared.wanted.Wanted.TheVariants.{Names as WantedNames, Content}
-use Rattle.scan_laws.specs.Bounds.{heard_as, heard_from, heard_by, AreTaken}
+use Rattle.scan_laws.specs.Bounds.{heard_as, heard_from, heard_by}
 use Rattle.scan_laws.specs.Caches.{IsOneCache}
 use Rattle.scan_laws.specs.Look.{is_reached_from, is_reached, content_atom, look_as, look_atom, look_at}
 use Rattle.scan_laws.specs.Meeting.{HaveRules, IsScanned, spared_by, digest_in}

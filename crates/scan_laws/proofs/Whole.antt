@@ -17,12 +17,12 @@ use Rattle.roots_api.specs.declared.op.Op.{Op}
 use Rattle.roots_api.specs.declared.op.Op.TheVariants.{List as OpList, Fetch}
 use Rattle.scan_cache.specs.declared.line.Line.{Line}
 use Rattle.scan_core.specs.Board.{left_alone}
-use Rattle.scan_core.specs.Scan.{ScanState, ScanTold, new_state, state_of, asked, asked_for, asked_at, after_told, after_all, learns, IsAnswered}
+use Rattle.scan_core.specs.Scan.{ScanState, ScanTold, new_state, state_of, asked, asked_for, asked_at, after_told, after_all, learns, IsAnswered, AreTaken}
 use Rattle.scan_core.specs.Told.{Told}
 use Rattle.scan_core.specs.declared.wanted.Next.{Next}
 use Rattle.scan_core.specs.declared.wanted.Wanted.{Wanted}
 use Rattle.scan_core.specs.declared.wanted.Wanted.TheVariants.{Names as WantedNames, Content}
-use Rattle.scan_laws.specs.Bounds.{heard_as, heard_from, heard_by, AreTaken}
+use Rattle.scan_laws.specs.Bounds.{heard_as, heard_from, heard_by}
 use Rattle.scan_laws.specs.Caches.{IsOneCache}
 use Rattle.scan_laws.specs.Meeting.{HaveRules, IsScanned, spared_by, WholeHasNoNext, WholeIsWholeScan}
 use Rattle.scan_laws.specs.ScanLists.{rows_heard, goes_on, is_scan_list, is_whole_list, is_unfetched, is_whole_scan}

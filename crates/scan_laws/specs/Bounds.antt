@@ -4,7 +4,7 @@ use Rattle.roots_api.specs.declared.answer.Answer.{Answer}
 use Rattle.roots_api.specs.declared.limits.TheConstants.{MAX_PIECE}
 use Rattle.roots_api.specs.declared.op.Op.{Op}
 use Rattle.roots_api.specs.declared.op.Op.TheVariants.{Fetch}
-use Rattle.scan_core.specs.Scan.{ScanState, ScanTold, new_state, state_of, asked, after_told, ends_by, IsAnswered}
+use Rattle.scan_core.specs.Scan.{ScanState, ScanTold, new_state, state_of, asked, after_told, IsTaken}
 use Rattle.scan_core.specs.Told.{Told}
 use Rattle.scan_laws.specs.ScanLists.{is_list, rows_heard}
 use Rattle.scan_laws.specs.Seen.{Heard, piece_len}
@@ -21,15 +21,6 @@ heard_from size s (t ∷ ts) = heard_as (asked s) t.answer ++ heard_from size (a
 -- what a scan asked, and what it was answered, the oldest first
 abbrev pub heard_by : ScanTold → List (Heard (List ℕ))
 heard_by m = heard_from m.size new_state m.told
-
--- each answer is one to what is asked there, by its row, and ends nothing
-abbrev pub AreTaken : ℕ → ℕ → ScanState → List Told → Type 0
-AreTaken entries size s [] = ⊤
-AreTaken entries size s (t ∷ ts) = IsAnswered (asked s) t.answer × (ends_by entries s t.answer ≡ None) × AreTaken entries size (after_told size s t) ts
-
--- a scan can have been told this
-abbrev pub IsTaken : ScanTold → Type 0
-IsTaken m = AreTaken m.entries m.size new_state m.told
 
 -- how many Lists were asked
 abbrev pub lists_in : {B : Type 0} → List (Heard B) → ℕ

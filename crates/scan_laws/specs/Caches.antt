@@ -6,9 +6,8 @@ use Rattle.entry_tree.specs.declared.atom.Atom.TheVariants.{File}
 use Rattle.entry_tree.specs.declared.entry.Stamp.{Stamp}
 use Rattle.scan_cache.specs.Cache.{digest_for}
 use Rattle.scan_cache.specs.declared.line.Line.{Line}
-use Rattle.scan_core.specs.Scan.{ScanState, ScanTold, new_state, state_of, after_told, learns}
+use Rattle.scan_core.specs.Scan.{ScanState, ScanTold, new_state, state_of, after_told, learns, IsTaken}
 use Rattle.scan_core.specs.Told.{Told}
-use Rattle.scan_laws.specs.Bounds.{IsTaken}
 
 -- all takes were given one cache, which nothing else changed between them: it began as the first, and came to the last
 abbrev pub IsOneCache : ℕ → ScanState → ByPath Line → List Told → ByPath Line → Type 0

@@ -6,9 +6,9 @@ use Rattle.entry_tree.specs.declared.entry.Stamp.{Stamp}
 use Rattle.ignore_glob.specs.Grammar.{Meaning}
 use Rattle.scan_cache.specs.Cache.{digest_for}
 use Rattle.scan_cache.specs.declared.line.Line.{Line}
-use Rattle.scan_core.specs.Scan.{ScanTold, new_state, state_of, asked}
+use Rattle.scan_core.specs.Scan.{ScanTold, new_state, state_of, asked, IsTaken}
 use Rattle.scan_core.specs.Told.{Told}
-use Rattle.scan_laws.specs.Bounds.{IsTaken, heard_by}
+use Rattle.scan_laws.specs.Bounds.{heard_by}
 use Rattle.scan_laws.specs.Caches.{IsOneCache}
 use Rattle.scan_laws.specs.ScanLists.{is_scan_list, is_whole_list, is_whole_scan}
 use Rattle.scan_laws.specs.Seen.{asked_next, seen_at, seen_so_far}

@@ -5,8 +5,7 @@ use Rattle.entry_tree.specs.Atom.{is_dir}
 use Rattle.entry_tree.specs.Tree.{Names, IsClosed}
 use Rattle.entry_tree.specs.declared.atom.Atom.{Atom}
 use Rattle.entry_tree.specs.declared.atom.Atom.TheVariants.{Dir, File, Link, Untracked, Problem}
-use Rattle.scan_core.specs.Scan.{ScanTold, state_of}
-use Rattle.scan_laws.specs.Bounds.{IsTaken}
+use Rattle.scan_core.specs.Scan.{ScanTold, state_of, IsTaken}
 
 -- whether a file is seen
 abbrev pub is_file : Option Atom → Bool

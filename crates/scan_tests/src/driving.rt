@@ -172,3 +172,17 @@ pub fn full_folder(alloc: Global, count: u64) -> Result<MemRoot, Fail> {
     }
     Ok(root)
 }
+
+/// How many operations a scan of a folder of so many files asks, where a side may have 65,536 rows; none where it ends before it is
+/// whole.
+pub fn scanned_folder(alloc: Global, count: u64) -> Result<Option<u64>, Fail> {
+    let mut root = full_folder(alloc, count)?;
+    let mut cache = Cache::new(alloc);
+    let rules = rules_of(alloc, "")?;
+    let mut scan = new_scan(alloc, 65_536, 16_777_216)?;
+    let (asked, end) = driven(alloc, &mut root, &mut scan, &rules, &mut cache, "")?;
+    if end.is_some() {
+        return Ok(None);
+    }
+    Ok(Some(asked))
+}

@@ -1,5 +1,5 @@
 //! What scans see.
-use crate::driving::{full_folder, scanned, scanned_twice};
+use crate::driving::{full_folder, scanned, scanned_folder, scanned_twice};
 use mem_roots::MemRoot;
 use std::test::Fail;
 
@@ -87,5 +87,21 @@ fn a_file_is_too_large_to_fetch(rt: HostRuntime) -> Result<(), Fail> {
     let alloc = rt.alloc();
     let seen = scanned(alloc, LIMITS, "", "0 fill a 131072\n0 fill b 16777217\n")?;
     assert_eq!(rt; seen.as_str(), "=d a=f b=2 after 4");
+    Ok(())
+}
+
+#[test]
+fn the_greatest_file(rt: HostRuntime) -> Result<(), Fail> {
+    let alloc = rt.alloc();
+    let seen = scanned(alloc, LIMITS, "", "0 fill a 16777216\n0 fill b 16777217\n")?;
+    assert_eq!(rt; seen.as_str(), "=d a=f b=2 after 258");
+    Ok(())
+}
+
+#[test]
+fn the_most_rows(rt: HostRuntime) -> Result<(), Fail> {
+    let alloc = rt.alloc();
+    assert!(rt; scanned_folder(alloc, 65_535)? == Some(65_536));
+    assert!(rt; scanned_folder(alloc, 65_537)?.is_none());
     Ok(())
 }
