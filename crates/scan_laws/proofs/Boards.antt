@@ -1,5 +1,5 @@
 -- What a board holds at each path once an entry, or the rows of a folder, were gone through.
-use Rattle.std.proofs.Common.{◌≡◌, ℕ, Bool, true, false, not, cond, T, List, [], ◌∷◌, ◌++◌, IsTrue, refl, sym, ap, ◌∙◌, Option, Some, None, option_map}
+use Rattle.std.proofs.Common.{◌≡◌, ℕ, Bool, true, false, not, cond, List, [], ◌∷◌, ◌++◌, IsTrue, refl, sym, ap, ◌∙◌, Option, Some, None, option_map}
 use Rattle.std.proofs.Common.{map as list_map}
 use Rattle.std.specs.FinMap as map
 use Rattle.std.specs.Cmp.{tied_itself}
@@ -23,12 +23,12 @@ use Rattle.entry_tree.proofs.Trees.{tie_is}
 use Rattle.ignore_glob.specs.Grammar.{Meaning}
 use Rattle.scan_cache.specs.Cache.{digest_for}
 use Rattle.scan_cache.specs.declared.line.Line.{Line}
-use Rattle.scan_core.specs.Board.{may_stand, shows, shows_file, asks, left_alone, placed_file, placed_as, placed, with_row, with_rows}
+use Rattle.scan_core.specs.Board.{may_stand, shows, left_alone, placed_file, placed_as, placed, with_row, with_rows}
 use Rattle.scan_core.specs.declared.board.Board.{Board}
 use Rattle.scan_core.specs.declared.wanted.Wanted.{Wanted}
 use Rattle.scan_core.specs.declared.wanted.Wanted.TheVariants.{Names as WantedNames, Content}
 use Rattle.scan_laws.specs.Standing.{is_file}
-use Rattle.scan_laws.proofs.Seeing.{last_of, last_child, row_goes, still_open, itself}
+use Rattle.scan_laws.proofs.Seeing.{last_of, last_child, row_goes, still_open}
 use Rattle.scan_laws.proofs.Standing.{Stands, IsOpen, shown_at}
 
 -- a value at one path, and what is there at the others

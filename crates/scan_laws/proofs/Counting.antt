@@ -1,5 +1,5 @@
 -- How many rows a scan of a state lists.
-use Rattle.std.proofs.Common.{◌≡◌, ◌⊎◌, inl, inr, ℕ, ◌+◌, ◌<◌, ◌≤◌, zero, suc, Bool, true, false, not, cond, ◌&&◌, ◌||◌, List, [], ◌∷◌, ◌++◌, length, filter, filter_map, nat_lt, refl, sym, ap, subst, ◌∙◌, Option, Some, None, option_map, option_and_then, arith}
+use Rattle.std.proofs.Common.{◌≡◌, inl, inr, ℕ, ◌+◌, ◌<◌, ◌≤◌, zero, suc, Bool, true, false, not, cond, ◌&&◌, ◌||◌, List, [], ◌∷◌, ◌++◌, length, filter, filter_map, refl, sym, ap, subst, ◌∙◌, Option, Some, None, option_map, option_and_then, arith}
 use Rattle.std.specs.Prelude.{unwrap_or}
 use Rattle.std.specs.FinMap as map
 use Rattle.std.specs.FinMap.Entries.{find}
@@ -11,36 +11,30 @@ use Rattle.std.specs.List.Sorted.{IsStrictlySortedBy}
 use Rattle.std.specs.Option.{is_some}
 use Rattle.std.specs.Ordering.{eq_by_cmp, is_eq, ordering_reverse}
 use Rattle.std.specs.declared.cmp.Ordering.TheVariants.{Less}
-use Rattle.std.proofs.lemmas.Bool.{ltb-true}
-use Rattle.std.proofs.lemmas.List.{append_assoc, append-nil, length-append}
+use Rattle.std.proofs.lemmas.List.{length-append}
 use Rattle.std.proofs.lemmas.Map.Keys.{sorted_head, sorted_tail}
-use Rattle.sync_path.specs.Path.{path_cmp, parent_of, last_name}
+use Rattle.sync_path.specs.Path.{path_cmp, parent_of}
 use Rattle.sync_path.specs.PathOrder.{path_cmp_total}
-use Rattle.entry_tree.specs.Entry.{is_dir}
-use Rattle.entry_tree.specs.Tree.{Names, ByPath, IsClosed, holds_folder, is_below, name_below, child_row, children_below}
+use Rattle.entry_tree.specs.Tree.{Names, ByPath, is_below, name_below, child_row, children_below}
 use Rattle.entry_tree.specs.declared.entry.Entry.{Entry}
 use Rattle.entry_tree.specs.declared.entry.Entry.TheVariants as entry
 use Rattle.entry_tree.specs.declared.entry.Stamp.{Stamp}
 use Rattle.entry_tree.proofs.Trees.{root_or_child, tie_is, parent-child}
 use Rattle.ignore_glob.specs.Grammar.{Meaning}
 use Rattle.roots_api.proofs.ListedRows.{name_below_is}
-use Rattle.roots_api.specs.Logs.{rows_in}
 use Rattle.roots_api.specs.States.{RootState}
-use Rattle.roots_api.specs.Steps.{answer_of}
 use Rattle.roots_api.specs.declared.answer.Answer.{Answer}
 use Rattle.roots_api.specs.declared.answer.Answer.TheVariants.{Listed, Held}
-use Rattle.roots_api.specs.declared.op.Op.{Op}
 use Rattle.roots_api.specs.declared.op.Op.TheVariants.{List as OpList, Fetch}
 use Rattle.scan_laws.specs.Look.{is_reached}
-use Rattle.scan_laws.specs.ScanLists.{rows_heard}
 use Rattle.scan_laws.specs.Seen.{Heard, row_named, rows_of, row_by}
 use Rattle.scan_laws.specs.Undisturbed.{look_rows}
 use Rattle.scan_cache.specs.declared.line.Line.{Line}
 use Rattle.sync_path.proofs.Ends.{last_name-push}
 use Rattle.scan_laws.proofs.Heard.{row_in}
-use Rattle.scan_laws.proofs.Looking.{name_of_child, reached_child, folder_is}
-use Rattle.scan_laws.proofs.Points.{Bytes, with_heard, listed_in, held_in, listed-other, listed-here, listed-fetch}
-use Rattle.scan_laws.proofs.Reading.{WasFolder, Reads}
+use Rattle.scan_laws.proofs.Looking.{name_of_child, reached_child}
+use Rattle.scan_laws.proofs.Points.{Bytes, with_heard, listed_in, listed-other, listed-here, listed-fetch}
+use Rattle.scan_laws.proofs.Reading.{Reads}
 use Rattle.scan_laws.proofs.Seeing.{itself}
 
 -- ---- counts
@@ -206,9 +200,9 @@ module _ (rules : List Meaning) (size : ℕ) (s : RootState) where
       pub rows_count : rows ≡ children_below s.tree p → count_rowed more ≡ count_rowed hs + length rows
       rows_count are =
           let e = filter_either (λ e. rowed hs e.0) (λ e. is_some (child_row p e)) (λ e. rowed more e.0)
-              (λ e. (all_splits e.0).either ∙ ap (λ b. rowed hs e.0 || b) (sym (mapped_some (λ name. (name, e.1)) (name_below e.0 p))))
-              (λ e. ap (λ b. rowed hs e.0 && b) (mapped_some (λ name. (name, e.1)) (name_below e.0 p)) ∙ (all_splits e.0).apart)
-              (map.entries s.tree) in
+          (λ e. (all_splits e.0).either ∙ ap (λ b. rowed hs e.0 || b) (sym (mapped_some (λ name. (name, e.1)) (name_below e.0 p))))
+          (λ e. ap (λ b. rowed hs e.0 && b) (mapped_some (λ name. (name, e.1)) (name_below e.0 p)) ∙ (all_splits e.0).apart)
+          (map.entries s.tree) in
           e ∙ ap (λ n. count_rowed hs + n) (sym (filter_map_length (child_row p) (map.entries s.tree)) ∙ ap length (sym are))
 
     pub held_counts_none : (found : Option Entry) → count_rowed (with_heard hs (OpList p) (Held found)) ≡ count_rowed hs
@@ -247,11 +241,11 @@ module _ (rules : List Meaning) (size : ℕ) (s : RootState) where
         elim (root_or_child q) [
           | inl is_root ↦ ap (is_reached rules) is_root
           | inr child ↦
-            (let sizes : length q ≡ length child.0 + 1 = ap length child.2 ∙ length-append child.0 (child.1 ∷ []) in
-            let was = reads.folders q h in
-            let row : row_named child.1 (rows_of (listed_in rules size hs child.0)) ≡ Some entry.Dir = sym (row_child child.0 child.1) ∙ ap (row_in rules size hs) (sym child.2) ∙ was.row_is in
-            let up = row_listed child.1 (listed_in rules size hs child.0) row in
-            ap (is_reached rules) child.2 ∙ reached_child rules child.0 child.1 ∙ (λ i. smaller child.0 (omega arith) up i && not ((reads.folders child.0 up).followed i)))
+              (let sizes : length q ≡ length child.0 + 1 = ap length child.2 ∙ length-append child.0 (child.1 ∷ []) in
+              let was = reads.folders q h in
+              let row : row_named child.1 (rows_of (listed_in rules size hs child.0)) ≡ Some entry.Dir = sym (row_child child.0 child.1) ∙ ap (row_in rules size hs) (sym child.2) ∙ was.row_is in
+              let up = row_listed child.1 (listed_in rules size hs child.0) row in
+              ap (is_reached rules) child.2 ∙ reached_child rules child.0 child.1 ∙ (λ i. smaller child.0 (omega arith) up i && not ((reads.folders child.0 up).followed i)))
         ]
       where
         row_child : (f : Names) (n : List ℕ) → row_in rules size hs (f ++ n ∷ []) ≡ row_named n (rows_of (listed_in rules size hs f))
@@ -266,10 +260,10 @@ module _ (rules : List Meaning) (size : ℕ) (s : RootState) where
         elim (root_or_child q) [
           | inl is_root ↦ absurd (let clash : false ≡ true = sym (ap (rowed hs) is_root) ∙ h in cc)
           | inr child ↦
-            (let up = rows_listed (listed_in rules size hs child.0) (sym (rowed_child hs child.0 child.1) ∙ ap (rowed hs) (sym child.2) ∙ h) in
-            ap (λ r. is_below r [] && is_reached rules r) child.2
-            ∙ (λ i. below_root child.0 child.1 i && (reached_child rules child.0 child.1
-            ∙ (λ j. reached_where_listed (suc (length child.0)) child.0 (omega arith) up j && not ((reads.folders child.0 up).followed j))) i))
+              (let up = rows_listed (listed_in rules size hs child.0) (sym (rowed_child hs child.0 child.1) ∙ ap (rowed hs) (sym child.2) ∙ h) in
+              ap (λ r. is_below r [] && is_reached rules r) child.2
+              ∙ (λ i. below_root child.0 child.1 i && (reached_child rules child.0 child.1
+              ∙ (λ j. reached_where_listed (suc (length child.0)) child.0 (omega arith) up j && not ((reads.folders child.0 up).followed j))) i))
         ]
 
     pub rows_within : count_rowed hs ≤ look_rows s rules

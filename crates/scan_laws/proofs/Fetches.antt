@@ -1,6 +1,5 @@
 -- How many Fetches a scan makes.
-use Rattle.std.proofs.Common.{◌≡◌, ℕ, ◌+◌, ◌*◌, ◌≤◌, ◌==◌, Bool, true, false, cond, List, [], ◌∷◌, ◌++◌, length, nat_lt, refl, sym, ap, ◌∙◌, Option, Some, None, arith}
-use Rattle.std.proofs.lemmas.List.{length-append, nil_from_length}
+use Rattle.std.proofs.Common.{◌≡◌, ℕ, ◌+◌, ◌*◌, ◌≤◌, ◌==◌, Bool, true, false, cond, List, [], ◌∷◌, ◌++◌, length, nat_lt, refl, ap, Option, Some, None, arith}
 use Rattle.sha2.specs.Sha256.{sha256}
 use Rattle.entry_tree.specs.Tree.{Names}
 use Rattle.entry_tree.specs.declared.entry.Stamp.{Stamp}
@@ -9,9 +8,8 @@ use Rattle.roots_api.specs.Answers.{IsFullPiece}
 use Rattle.roots_api.specs.declared.answer.Answer.{Answer}
 use Rattle.roots_api.specs.declared.answer.Answer.TheVariants.{Listed, Held, Piece, Changed, TooLarge, Cleared, Opened, Kept, NotStaged, DigestDiffers, Done, NoParent, Differs, NoLink, NoExec, NotEmpty, Full, Failed}
 use Rattle.roots_api.specs.declared.limits.TheConstants.{MAX_PIECE}
-use Rattle.roots_api.specs.declared.op.Op.TheVariants.{List as OpList, Fetch}
 use Rattle.scan_core.specs.Board.{shows_file}
-use Rattle.scan_core.specs.Scan.{ScanState, ScanTold, new_state, asked, asked_for, asked_at, after_piece, after_fetch, after_wanted, after_asked, after_told, after_all, with_problem, file_done, ends_fetch, ends_wanted, ends_asked, ends_by, IsAnswered, AreTaken}
+use Rattle.scan_core.specs.Scan.{ScanState, new_state, asked, asked_for, asked_at, after_piece, after_fetch, after_wanted, after_asked, after_told, after_all, with_problem, file_done, ends_fetch, ends_wanted, ends_asked, IsAnswered, AreTaken}
 use Rattle.scan_core.specs.Told.{Told}
 use Rattle.scan_core.specs.declared.board.Board.{Board}
 use Rattle.scan_core.specs.declared.wanted.Next.{Next}

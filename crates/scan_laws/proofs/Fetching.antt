@@ -8,13 +8,9 @@ use Rattle.std.proofs.lemmas.List.{length-append}
 use Rattle.std.proofs.lemmas.List.Elements.{filter_map-append}
 use Rattle.std.proofs.lemmas.List.Folds.{list_any-append}
 use Rattle.std.proofs.lemmas.List.Sums.{sum_by-append, sum_by-cons}
-use Rattle.sha2.specs.Sha256.{sha256}
 use Rattle.sync_path.specs.Path.{path_cmp}
-use Rattle.sync_path.specs.PathOrder.{path_cmp_total}
 use Rattle.entry_tree.specs.Tree.{Names, ByPath}
-use Rattle.entry_tree.specs.declared.atom.Atom.{Atom}
 use Rattle.entry_tree.specs.declared.atom.Atom.TheVariants as atom
-use Rattle.entry_tree.specs.declared.entry.Entry.{Entry}
 use Rattle.entry_tree.specs.declared.entry.Entry.TheVariants as entry
 use Rattle.entry_tree.specs.declared.entry.Stamp.{Stamp}
 use Rattle.entry_tree.specs.declared.problem_kind.ProblemKind.{ProblemKind}
@@ -22,20 +18,17 @@ use Rattle.entry_tree.specs.declared.problem_kind.ProblemKind.TheVariants as pro
 use Rattle.entry_tree.proofs.Trees.{tie_is}
 use Rattle.ignore_glob.specs.Grammar.{Meaning}
 use Rattle.roots_api.specs.declared.answer.Answer.{Answer}
-use Rattle.roots_api.specs.declared.answer.Answer.TheVariants.{Piece, Changed, TooLarge, Failed}
-use Rattle.roots_api.specs.declared.op.Op.{Op}
+use Rattle.roots_api.specs.declared.answer.Answer.TheVariants.{Piece}
 use Rattle.roots_api.specs.declared.op.Op.TheVariants.{Fetch}
-use Rattle.scan_cache.specs.Cache.{with_line}
 use Rattle.scan_cache.specs.declared.line.Line.{Line}
 use Rattle.scan_core.specs.Board.{shows, shows_file}
 use Rattle.scan_core.specs.declared.board.Board.{Board}
-use Rattle.scan_core.specs.declared.wanted.Wanted.{Wanted}
-use Rattle.scan_core.specs.declared.wanted.Wanted.TheVariants.{Names as WantedNames, Content}
+use Rattle.scan_core.specs.declared.wanted.Wanted.TheVariants.{Content}
 use Rattle.scan_laws.specs.Meeting.{spared_by}
 use Rattle.scan_laws.specs.Seen.{Heard, first_one, problem_by, is_last, piece_len, rows_of, file_atom}
 use Rattle.scan_laws.proofs.Boards.{put_at, is_none, nothing_stamped, file_stamps}
-use Rattle.scan_laws.proofs.Heard.{is_named, still_named, held_same, Quiet, folder_listed}
-use Rattle.scan_laws.proofs.Needs.{Spells, NeedsContent, needs_content, need_file, settled_file}
+use Rattle.scan_laws.proofs.Heard.{still_named, held_same, Quiet, folder_listed}
+use Rattle.scan_laws.proofs.Needs.{NeedsContent, needs_content, need_file, settled_file}
 use Rattle.scan_laws.proofs.Points.{Bytes, with_heard, listed_in, fetched_in, held_in, listed-fetch, fetched-other, fetched-here, problem_of, need, settled, need_in, settled_in}
 use Rattle.scan_laws.proofs.Seeing.{itself}
 use Rattle.scan_laws.proofs.Standing.{Stands, IsOpen, shown_at}

@@ -1,5 +1,5 @@
 -- Each answer keeps a scan tied to what was heard.
-use Rattle.std.proofs.Common.{◌≡◌, ◌⊎◌, inl, inr, ℕ, ◌+◌, Bool, true, false, cond, List, [], ◌∷◌, ◌++◌, length, nat_lt, sum_by, refl, sym, ap, subst, ◌∙◌, Option, Some, None, arith}
+use Rattle.std.proofs.Common.{◌≡◌, inl, inr, ℕ, Bool, true, false, cond, List, [], ◌∷◌, ◌++◌, length, nat_lt, sum_by, refl, sym, ap, subst, ◌∙◌, Option, Some, None}
 use Rattle.std.specs.FinMap as map
 use Rattle.std.specs.List.{list_any}
 use Rattle.std.specs.Option.{is_some}
@@ -9,7 +9,6 @@ use Rattle.sha2.specs.Sha256.{sha256}
 use Rattle.sync_path.specs.Path.{path_cmp}
 use Rattle.sync_path.specs.PathOrder.{path_cmp_total}
 use Rattle.entry_tree.specs.Tree.{Names, ByPath}
-use Rattle.entry_tree.specs.declared.entry.Entry.TheVariants as entry
 use Rattle.entry_tree.specs.declared.entry.Stamp.{Stamp}
 use Rattle.entry_tree.specs.declared.problem_kind.ProblemKind.{ProblemKind}
 use Rattle.entry_tree.specs.declared.problem_kind.ProblemKind.TheVariants as problem
@@ -21,7 +20,7 @@ use Rattle.roots_api.specs.declared.answer.Answer.TheVariants.{Listed, Held, Pie
 use Rattle.roots_api.specs.declared.op.Op.TheVariants.{List as OpList, Fetch}
 use Rattle.scan_cache.specs.Cache.{with_line}
 use Rattle.scan_cache.specs.declared.line.Line.{Line}
-use Rattle.scan_core.specs.Board.{new_board, shows_file}
+use Rattle.scan_core.specs.Board.{shows_file}
 use Rattle.scan_core.specs.Ignoring.{verdict, ignores, or_else, says_so}
 use Rattle.scan_core.specs.Scan.{ScanState, new_state, asked, asked_for, asked_at, after_list, after_piece, after_fetch, after_wanted, after_asked, after_told, after_all, with_problem, file_done, ends_list, ends_fetch, ends_wanted, ends_asked, ends_by, learns_piece, learns_fetch, learns_wanted, learns_asked, learns, IsAnswered, AreTaken}
 use Rattle.scan_core.specs.Told.{Told}
@@ -33,14 +32,12 @@ use Rattle.scan_laws.specs.Bounds.{heard_as, heard_from}
 use Rattle.scan_laws.specs.Caches.{IsOneCache}
 use Rattle.scan_laws.specs.Meeting.{HaveRules, spared_by}
 use Rattle.scan_laws.specs.Seen.{Heard, is_last, piece_len}
-use Rattle.scan_laws.proofs.Boards.{is_none}
 use Rattle.scan_laws.proofs.Fetching.{problem_settles, last_settles, still_in_course, still_apart, piece_problem, ended_more, problem_more, needs, fetch_quiet, fetch_lines}
 use Rattle.scan_laws.proofs.Heard.{Quiet, held_child, or_left}
-use Rattle.scan_laws.proofs.Needs.{Spells}
-use Rattle.scan_laws.proofs.Points.{Bytes, with_heard, listed_in, fetched_in, held_in, problem_of, need, settled}
+use Rattle.scan_laws.proofs.Points.{Bytes, with_heard, fetched_in, held_in, problem_of, need, settled}
 use Rattle.scan_laws.proofs.Seeing.{Ready, NextOpen, asked_ready, itself}
-use Rattle.scan_laws.proofs.Standing.{Stands, IsOpen}
-use Rattle.scan_laws.proofs.Tying.{PointTied, Lines, Settles, InCourse, NextTied, is_at, Tied, next_ties, nothing_held, entry_held, rows_settle}
+use Rattle.scan_laws.proofs.Standing.{IsOpen}
+use Rattle.scan_laws.proofs.Tying.{PointTied, Lines, InCourse, NextTied, is_at, Tied, next_ties, nothing_held, entry_held, rows_settle}
 
 -- the root isn't ignored
 no_verdict : (rules : List Meaning) (is_dir : Bool) → verdict rules [] is_dir ≡ None

@@ -1,5 +1,5 @@
 -- What one answer more says of the paths.
-use Rattle.std.proofs.Common.{◌≡◌, ◌⊎◌, inl, inr, ℕ, ◌+◌, Bool, true, false, cond, ◌||◌, List, [], ◌∷◌, ◌++◌, length, nat_lt, bytes_eq, filter_map, flat_map, sum_by, refl, sym, ap, ◌∙◌, Option, Some, None, arith}
+use Rattle.std.proofs.Common.{◌≡◌, ℕ, Bool, true, false, cond, ◌||◌, List, [], ◌∷◌, ◌++◌, length, bytes_eq, flat_map, refl, sym, ap, ◌∙◌, Option, Some, None}
 use Rattle.std.proofs.Common.{map as list_map}
 use Rattle.std.specs.List.{list_any}
 use Rattle.std.specs.Option.{is_some}
@@ -10,16 +10,13 @@ use Rattle.sync_path.specs.Path.{path_cmp, parent_of, last_name}
 use Rattle.sync_path.proofs.Ends.{last_name-push}
 use Rattle.entry_tree.specs.Tree.{Names}
 use Rattle.entry_tree.specs.declared.entry.Entry.{Entry}
-use Rattle.entry_tree.specs.declared.entry.Entry.TheVariants as entry
 use Rattle.entry_tree.proofs.Paths.{name_is, name_itself}
 use Rattle.entry_tree.proofs.Trees.{parent-child, tie_is}
 use Rattle.ignore_glob.specs.Grammar.{Meaning}
 use Rattle.roots_api.specs.declared.answer.Answer.{Answer}
-use Rattle.roots_api.specs.declared.answer.Answer.TheVariants.{Listed, Held}
 use Rattle.roots_api.specs.declared.op.Op.{Op}
-use Rattle.roots_api.specs.declared.op.Op.TheVariants.{List as OpList, Fetch}
 use Rattle.scan_laws.specs.Seen.{Heard, same_path, row_named, rows_of, row_by, held_by, named_by, paths_in}
-use Rattle.scan_laws.proofs.Boards.{row_at, is_none}
+use Rattle.scan_laws.proofs.Boards.{row_at}
 use Rattle.scan_laws.proofs.Points.{Bytes, with_heard, listed_in, fetched_in, held_in}
 use Rattle.scan_laws.proofs.Seeing.{last_of, last_child, itself}
 

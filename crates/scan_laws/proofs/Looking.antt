@@ -1,14 +1,14 @@
 -- What a whole scan sees of a root on which nothing changed, path by path.
-use Rattle.std.proofs.Common.{◌≡◌, ◌⊎◌, inl, inr, ℕ, ◌+◌, ◌<◌, ◌≤◌, zero, suc, ◌==◌, Bool, true, false, not, cond, ◌&&◌, ◌||◌, List, [], ◌∷◌, ◌++◌, length, nat_lt, bytes_eq, filter_map, sum_by, refl, sym, ap, subst, ◌∙◌, Option, Some, None, option_map, option_and_then, arith}
+use Rattle.std.proofs.Common.{◌≡◌, inl, inr, ℕ, ◌+◌, ◌<◌, ◌≤◌, zero, suc, ◌==◌, Bool, true, false, not, cond, ◌&&◌, ◌||◌, List, [], ◌∷◌, ◌++◌, length, nat_lt, filter_map, sum_by, refl, sym, ap, subst, ◌∙◌, Option, Some, None, option_map, option_and_then, arith}
 use Rattle.std.specs.Prelude.{unwrap_or}
 use Rattle.std.specs.FinMap as map
 use Rattle.std.specs.List.{list_any, cons_option}
 use Rattle.std.specs.Option.{is_some}
-use Rattle.std.specs.Ordering.{eq_by_cmp, is_eq}
+use Rattle.std.specs.Ordering.{eq_by_cmp}
 use Rattle.std.proofs.lemmas.Bool.{ltb-true, ltb-false}
 use Rattle.std.proofs.lemmas.List.{append_assoc, append-nil, length-append}
 use Rattle.sha2.specs.Sha256.{sha256}
-use Rattle.sync_path.specs.Path.{path_cmp, parent_of, last_name}
+use Rattle.sync_path.specs.Path.{path_cmp}
 use Rattle.sync_path.proofs.Ends.{last_name-push}
 use Rattle.entry_tree.specs.Entry.{is_dir}
 use Rattle.entry_tree.specs.Tree.{Names, ByPath, IsClosed, holds_folder, name_below, child_row, children_below}
@@ -17,7 +17,6 @@ use Rattle.entry_tree.specs.declared.atom.Atom.TheVariants as atom
 use Rattle.entry_tree.specs.declared.entry.Entry.{Entry}
 use Rattle.entry_tree.specs.declared.entry.Entry.TheVariants as entry
 use Rattle.entry_tree.specs.declared.entry.Stamp.{Stamp}
-use Rattle.entry_tree.specs.declared.problem_kind.ProblemKind.{ProblemKind}
 use Rattle.entry_tree.specs.declared.problem_kind.ProblemKind.TheVariants as problem
 use Rattle.entry_tree.proofs.Paths.{name_itself}
 use Rattle.entry_tree.proofs.Trees.{root_or_child, tie_is, parent-child}
@@ -27,30 +26,29 @@ use Rattle.roots_api.specs.Steps.{answer_of}
 use Rattle.roots_api.specs.declared.answer.Answer.{Answer}
 use Rattle.roots_api.specs.declared.answer.Answer.TheVariants.{Listed, Held, TooLarge}
 use Rattle.roots_api.specs.declared.limits.TheConstants.{MAX_FETCH}
-use Rattle.roots_api.specs.declared.op.Op.TheVariants.{List as OpList, Fetch}
+use Rattle.roots_api.specs.declared.op.Op.TheVariants.{List as OpList}
 use Rattle.roots_api.proofs.ListedRows.{name_below_is}
 use Rattle.scan_cache.specs.Cache.{digest_for, line_of}
 use Rattle.scan_cache.specs.declared.line.Line.{Line}
 use Rattle.scan_core.specs.Board.{left_alone}
 use Rattle.scan_core.specs.Ignoring.{ignores}
 use Rattle.scan_core.specs.Scan.{new_state, state_of}
-use Rattle.scan_core.specs.declared.wanted.Wanted.{Wanted}
 use Rattle.scan_core.specs.declared.wanted.Wanted.TheVariants.{Names as WantedNames, Content}
 use Rattle.scan_laws.specs.Bounds.{heard_by}
 use Rattle.scan_laws.specs.Look.{is_reached_from, is_reached, content_atom, look_as, look_atom, look_at}
 use Rattle.scan_laws.specs.Meeting.{spared_by, digest_in}
 use Rattle.scan_laws.specs.Seen.{Heard, first_one, row_named, rows_of, held_by, problem_by, is_last, piece_len, file_atom, wanted_at, seen_at}
-use Rattle.scan_laws.specs.Undisturbed.{IsDigestOf, LinesAreOf, IsUndisturbed, UndisturbedSeesLook}
+use Rattle.scan_laws.specs.Undisturbed.{LinesAreOf, UndisturbedSeesLook}
 use Rattle.scan_laws.proofs.Boards.{is_none}
-use Rattle.scan_laws.proofs.Going.{all_tied, new_tied, root_followed}
+use Rattle.scan_laws.proofs.Going.{new_tied, root_followed}
 use Rattle.scan_laws.proofs.Heard.{Quiet, row_in, held_child, same_child}
 use Rattle.scan_laws.proofs.Meeting.{whole_sees_seen_tree, whole_wants_nothing, ready_now, tied_now}
 use Rattle.scan_laws.proofs.Needs.{wanted_some, seen_held, no_problem_yet}
 use Rattle.scan_laws.proofs.Points.{Bytes, listed_in, fetched_in, held_in, problem_of, need_in, need, need_as, atom_by, atom_of}
-use Rattle.scan_laws.proofs.Reading.{joined, joined_length, FetchedOn, ReadAs, IsRead, WasFolder, BegunIs, Reads, same_stamps}
+use Rattle.scan_laws.proofs.Reading.{joined, joined_length, FetchedOn, IsRead, Reads, same_stamps}
 use Rattle.scan_laws.proofs.Seeing.{new_ready}
-use Rattle.scan_laws.proofs.Tying.{Lines, Tied}
-use Rattle.scan_laws.proofs.Undisturbed.{all_read, new_reads, too_large, Pieces, pieces}
+use Rattle.scan_laws.proofs.Tying.{Lines}
+use Rattle.scan_laws.proofs.Undisturbed.{all_read, new_reads, too_large, pieces}
 
 -- ---- what is reached
 
@@ -202,8 +200,8 @@ module _ (rules : List Meaning) (size : ℕ) (before after : ByPath Line) (s : R
       elim (root_or_child q) [
         | inl is_root ↦ subst Reached (sym is_root) root_reached
         | inr child ↦
-          (let sizes : length q ≡ length child.0 + 1 = ap length child.2 ∙ length-append child.0 (child.1 ∷ []) in
-          subst Reached (sym child.2) (child_reached child.0 child.1 (smaller child.0 (omega arith))))
+            (let sizes : length q ≡ length child.0 + 1 = ap length child.2 ∙ length-append child.0 (child.1 ∷ []) in
+            subst Reached (sym child.2) (child_reached child.0 child.1 (smaller child.0 (omega arith))))
       ]
 
   held_everywhere : (q : Names) → held_in rules size hs q ≡ cond (is_reached rules q) (map.get s.tree q) None
@@ -348,7 +346,7 @@ undisturbed_sees_look m rules before after scanned s id still whole q =
     let tied = tied_now m rules before after scanned in
     let ready = ready_now m rules before after scanned in
     let none = λ (r : Names). is_none (need_in rules m.size (spared_by before) (heard_by m) r)
-        (sym (wanted_some rules m.size (spared_by before) (heard_by m) r) ∙ ap is_some (whole_wants_nothing rules m.size before after (heard_by m) (state_of m) ready tied whole r)) in
+    (sym (wanted_some rules m.size (spared_by before) (heard_by m) r) ∙ ap is_some (whole_wants_nothing rules m.size before after (heard_by m) (state_of m) ready tied whole r)) in
     let reads = all_read rules m.size before s id m.entries after new_state m.told [] before scanned.taken scanned.one_rules scanned.one_cache new_ready (new_tied rules m.size before) (new_reads rules m.size before s id) refl still.answered in
     whole_sees_seen_tree m rules before after scanned whole q
     ∙ looks rules m.size before after s id (heard_by m) reads tied.quiet tied.lines still.closed none still.lines still.limit q

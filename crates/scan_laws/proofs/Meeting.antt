@@ -1,33 +1,26 @@
 -- A scan asks and sees what the points say.
-use Rattle.std.proofs.Common.{◌≡◌, ◌⊎◌, inl, inr, ℕ, ◌+◌, ◌≤◌, ◌==◌, Bool, true, false, not, cond, ◌&&◌, ◌||◌, List, [], ◌∷◌, ◌++◌, length, nat_lt, sum_by, refl, sym, ap, subst, ◌∙◌, Option, Some, None, option_map, arith}
+use Rattle.std.proofs.Common.{◌≡◌, ◌⊎◌, inl, inr, ℕ, ◌+◌, ◌≤◌, ◌==◌, Bool, true, false, not, cond, ◌&&◌, ◌||◌, List, [], ◌∷◌, ◌++◌, length, nat_lt, refl, sym, ap, subst, ◌∙◌, Option, Some, None, option_map, arith}
 use Rattle.std.specs.Prelude.{unwrap_or, ⊤}
 use Rattle.std.specs.FinMap as map
 use Rattle.std.specs.Cmp.{tied_itself}
 use Rattle.std.specs.List.{list_any}
 use Rattle.std.specs.Option.{is_some}
-use Rattle.std.specs.Ordering.{eq_by_cmp, is_eq, is_lt, ordering_reverse}
-use Rattle.std.specs.declared.cmp.Ordering.{Ordering}
-use Rattle.std.specs.declared.cmp.Ordering.TheVariants.{Less, Equal, Greater}
-use Rattle.std.proofs.lemmas.List.{append_assoc, append-nil}
+use Rattle.std.specs.Ordering.{eq_by_cmp, is_lt, ordering_reverse}
+use Rattle.std.specs.declared.cmp.Ordering.TheVariants.{Less}
 use Rattle.sync_path.specs.Path.{path_cmp}
 use Rattle.sync_path.specs.PathOrder.{path_cmp_total}
 use Rattle.entry_tree.specs.Tree.{Names, ByPath}
-use Rattle.entry_tree.specs.declared.atom.Atom.{Atom}
-use Rattle.entry_tree.specs.declared.atom.Atom.TheVariants as atom
 use Rattle.entry_tree.specs.declared.entry.Stamp.{Stamp}
 use Rattle.entry_tree.proofs.Trees.{tie_is}
 use Rattle.ignore_glob.specs.Grammar.{Meaning}
-use Rattle.roots_api.specs.Answers.{is_full, is_failed, IsAnswerTo}
-use Rattle.roots_api.specs.Logs.{rows_in}
+use Rattle.roots_api.specs.Answers.{IsAnswerTo}
 use Rattle.roots_api.specs.declared.answer.Answer.{Answer}
 use Rattle.roots_api.specs.declared.answer.Answer.TheVariants.{Listed, Held, Piece, Changed, TooLarge, Cleared, Opened, Kept, NotStaged, DigestDiffers, Done, NoParent, Differs, NoLink, NoExec, NotEmpty, Full, Failed}
 use Rattle.roots_api.specs.declared.op.Op.{Op}
 use Rattle.roots_api.specs.declared.op.Op.TheVariants.{List as OpList, Fetch}
-use Rattle.scan_cache.specs.Cache.{digest_for}
 use Rattle.scan_cache.specs.declared.line.Line.{Line}
-use Rattle.scan_core.specs.Scan.{ScanState, ScanTold, new_state, state_of, asked, asked_for, asked_at, after_told, after_all, ends_list, ends_fetch, ends_wanted, ends_asked, ends_by, learns, IsAnswered, AreTaken}
+use Rattle.scan_core.specs.Scan.{ScanState, ScanTold, new_state, state_of, asked, asked_for, asked_at, after_told, ends_list, ends_fetch, ends_wanted, ends_asked, learns, IsAnswered, AreTaken}
 use Rattle.scan_core.specs.Told.{Told}
-use Rattle.scan_core.specs.declared.board.Board.{Board}
 use Rattle.scan_core.specs.declared.scan_end.ScanEnd.TheVariants as end
 use Rattle.scan_core.specs.declared.wanted.Next.{Next}
 use Rattle.scan_core.specs.declared.wanted.Wanted.{Wanted}
@@ -35,17 +28,16 @@ use Rattle.scan_core.specs.declared.wanted.Wanted.TheVariants.{Names as WantedNa
 use Rattle.scan_laws.specs.Bounds.{heard_as, heard_from, heard_by}
 use Rattle.scan_laws.specs.Caches.{IsOneCache}
 use Rattle.scan_laws.specs.Meeting.{HaveRules, IsScanned, spared_by, digest_in, AsksWhatPointsSay, SeesWhatPointsSay, WholeSeesSeenTree, AsksAScansList}
-use Rattle.scan_laws.specs.ScanLists.{is_next, is_list, rows_heard, is_end, goes_on}
-use Rattle.scan_laws.specs.Seen.{Heard, same_path, piece_len, paths_in, wanted_at, earlier, first_wanted, asked_next, seen_at, seen_so_far}
+use Rattle.scan_laws.specs.ScanLists.{is_next, rows_heard, is_end, goes_on}
+use Rattle.scan_laws.specs.Seen.{Heard, same_path, paths_in, wanted_at, earlier, first_wanted, asked_next, seen_at, seen_so_far}
 use Rattle.scan_laws.proofs.Boards.{is_none}
 use Rattle.scan_laws.proofs.Bounding.{told_steps, rows_join}
 use Rattle.scan_laws.proofs.Going.{told_ties, all_tied, new_tied}
-use Rattle.scan_laws.proofs.Heard.{is_named}
-use Rattle.scan_laws.proofs.Knowing.{Knows, all_know, new_knows}
+use Rattle.scan_laws.proofs.Knowing.{all_know, new_knows}
 use Rattle.scan_laws.proofs.Needs.{Spells, wanted_is, wanted_some, seen_is}
 use Rattle.scan_laws.proofs.Points.{Bytes, fetched_in, held_in, atom_of, need_in, settled_in}
 use Rattle.scan_laws.proofs.Seeing.{Ready, NextOpen, all_ready, asked_ready, new_ready, itself}
-use Rattle.scan_laws.proofs.Tying.{PointTied, InCourse, NextTied, is_at, Tied}
+use Rattle.scan_laws.proofs.Tying.{InCourse, NextTied, is_at, Tied}
 
 -- ---- the first of what is needed
 

@@ -1,5 +1,5 @@
 -- What is needed and what is settled at a path, by what was heard of it.
-use Rattle.std.proofs.Common.{◌≡◌, ℕ, Bool, true, false, cond, ◌||◌, List, [], ◌∷◌, ◌++◌, length, nat_lt, filter_map, sum_by, refl, sym, ap, ◌∙◌, Option, Some, None, option_map, option_and_then, arith}
+use Rattle.std.proofs.Common.{◌≡◌, ℕ, Bool, true, false, cond, ◌||◌, List, [], ◌∷◌, length, nat_lt, sum_by, refl, sym, ap, ◌∙◌, Option, Some, None, option_map, option_and_then, arith}
 use Rattle.std.specs.FinMap as map
 use Rattle.std.specs.List.{list_any}
 use Rattle.std.specs.Option.{is_some}
@@ -13,7 +13,6 @@ use Rattle.entry_tree.specs.declared.problem_kind.ProblemKind.{ProblemKind}
 use Rattle.entry_tree.specs.declared.problem_kind.ProblemKind.TheVariants as problem
 use Rattle.ignore_glob.specs.Grammar.{Meaning}
 use Rattle.roots_api.specs.declared.answer.Answer.{Answer}
-use Rattle.roots_api.specs.declared.op.Op.{Op}
 use Rattle.roots_api.specs.declared.op.Op.TheVariants.{List as OpList, Fetch}
 use Rattle.scan_cache.specs.Cache.{digest_for, line_of}
 use Rattle.scan_cache.specs.declared.line.Line.{Line}
@@ -23,7 +22,7 @@ use Rattle.scan_core.specs.declared.board.Board.{Board}
 use Rattle.scan_core.specs.declared.wanted.Wanted.{Wanted}
 use Rattle.scan_core.specs.declared.wanted.Wanted.TheVariants.{Names as WantedNames, Content}
 use Rattle.scan_laws.specs.Meeting.{spared_by}
-use Rattle.scan_laws.specs.Seen.{Heard, first_one, problem_by, is_last, piece_len, file_atom, wanted_of, wanted_as, wanted_at, atom_as, atom_at, seen_so_far}
+use Rattle.scan_laws.specs.Seen.{Heard, first_one, is_last, piece_len, file_atom, wanted_of, wanted_as, wanted_at, atom_as, atom_at, seen_so_far}
 use Rattle.scan_laws.proofs.Boards.{asked_as, asked_at_once, shown_as, shown_at_once, stamped_as, stamped_at_once, over, is_none}
 use Rattle.scan_laws.proofs.Points.{Bytes, listed_in, fetched_in, held_in, problem_of, need_as, need_of, need, atom_by, atom_of, settled, need_in, settled_in}
 
@@ -64,10 +63,10 @@ module _ (rules : List Meaning) (size : ℕ) where
         elim (left_alone rules q (entry.File stamp exec)) as (λ c. cond c None (wanted_as length rules size hs spares q (entry.File stamp exec)) ≡ option_map (asked_at bytes q) (cond c None (need_as rules size spares q (listed_in rules size hs q) (fetched_in rules size hs q) (entry.File stamp exec)))) [
           | true ↦ refl
           | false ↦ elim (spares q stamp || (is_some (problem_of rules size (fetched_in rules size hs q)) || list_any is_last (fetched_in rules size hs q)))
-            as (λ l. cond l None (Some (Fetch q stamp (sum_by (piece_len length) (fetched_in rules size hs q)))) ≡ option_map (asked_at bytes q) (cond l None (Some (Content stamp exec)))) [
-            | true ↦ refl
-            | false ↦ ap (λ n. Some (Fetch q stamp n)) is
-          ]
+              as (λ l. cond l None (Some (Fetch q stamp (sum_by (piece_len length) (fetched_in rules size hs q)))) ≡ option_map (asked_at bytes q) (cond l None (Some (Content stamp exec)))) [
+                | true ↦ refl
+                | false ↦ ap (λ n. Some (Fetch q stamp n)) is
+              ]
         ]
     wanted_entry hs q (entry.Link text) bytes is =
         elim (left_alone rules q (entry.Link text)) as (λ c. cond c None None ≡ option_map (asked_at bytes q) (cond c None None)) [ true ↦ refl | false ↦ refl ]

@@ -1,12 +1,10 @@
 -- What stands at a path, from what was heard of it.
-use Rattle.std.proofs.Common.{◌≡◌, ℕ, ◌+◌, Bool, true, false, cond, ◌||◌, List, [], ◌∷◌, ◌++◌, length, nat_lt, filter_map, sum_by, refl, sym, ap, ◌∙◌, Option, Some, None, option_map, option_and_then, arith}
+use Rattle.std.proofs.Common.{◌≡◌, ℕ, Bool, true, false, cond, ◌||◌, List, [], ◌∷◌, ◌++◌, length, nat_lt, filter_map, sum_by, refl, ap, ◌∙◌, Option, Some, None, option_map, option_and_then}
 use Rattle.std.specs.List.{list_any}
 use Rattle.std.specs.Option.{is_some}
 use Rattle.std.specs.Ordering.{eq_by_cmp}
 use Rattle.std.proofs.lemmas.List.{append-nil}
 use Rattle.std.proofs.lemmas.List.Elements.{filter_map-append}
-use Rattle.std.proofs.lemmas.List.Folds.{list_any-append}
-use Rattle.std.proofs.lemmas.List.Sums.{sum_by-append, sum_by-cons}
 use Rattle.sync_path.specs.Path.{path_cmp}
 use Rattle.entry_tree.specs.Tree.{Names}
 use Rattle.entry_tree.specs.declared.atom.Atom.{Atom}
@@ -21,10 +19,9 @@ use Rattle.roots_api.specs.declared.answer.Answer.{Answer}
 use Rattle.roots_api.specs.declared.op.Op.{Op}
 use Rattle.roots_api.specs.declared.op.Op.TheVariants.{List as OpList, Fetch}
 use Rattle.scan_core.specs.Board.{left_alone}
-use Rattle.scan_core.specs.Scan.{asked_at}
 use Rattle.scan_core.specs.declared.wanted.Wanted.{Wanted}
 use Rattle.scan_core.specs.declared.wanted.Wanted.TheVariants.{Names as WantedNames, Content}
-use Rattle.scan_laws.specs.Seen.{Heard, first_one, answered_list, answered_fetch, held_by, problem_by, is_last, piece_len, file_atom, listed, held, fetched, problem_at, seen_at, wanted_at, seen_so_far}
+use Rattle.scan_laws.specs.Seen.{Heard, first_one, answered_list, answered_fetch, problem_by, is_last, piece_len, file_atom, listed, held, fetched}
 
 abbrev pub Bytes : Type 0
 Bytes = List ℕ

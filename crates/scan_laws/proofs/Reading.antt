@@ -1,40 +1,35 @@
 -- What was read of each file, and what the cache learnt of it.
-use Rattle.std.proofs.Common.{◌≡◌, ◌⊎◌, inl, inr, ℕ, ◌+◌, ◌==◌, Bool, true, false, not, cond, ◌||◌, List, [], ◌∷◌, ◌++◌, length, nat_lt, sum_by, flat_map, refl, sym, ap, subst, ◌∙◌, Option, Some, None, arith}
+use Rattle.std.proofs.Common.{◌≡◌, ◌⊎◌, inl, inr, ℕ, ◌+◌, Bool, true, false, List, [], ◌∷◌, ◌++◌, length, sum_by, flat_map, refl, sym, ap, subst, ◌∙◌, Option, Some, None, arith}
 use Rattle.std.specs.Prelude.{⊤, unwrap_or}
 use Rattle.std.specs.FinMap as map
 use Rattle.std.specs.List.{list_any}
 use Rattle.std.specs.Option.{is_some, option_and_then}
 use Rattle.std.specs.Ordering.{eq_by_cmp}
 use Rattle.std.proofs.lemmas.Grind.{flat_map-append}
-use Rattle.std.proofs.lemmas.List.{append_assoc, append-nil, length-append, nil_from_length}
-use Rattle.std.proofs.lemmas.List.Sums.{sum_by-append, sum_by-cons}
+use Rattle.std.proofs.lemmas.List.{append-nil, length-append}
+use Rattle.std.proofs.lemmas.List.Sums.{sum_by-cons}
 use Rattle.sha2.specs.Sha256.{sha256}
-use Rattle.sync_path.specs.Path.{path_cmp, parent_of}
-use Rattle.sync_path.specs.PathOrder.{path_cmp_total}
+use Rattle.sync_path.specs.Path.{path_cmp}
 use Rattle.entry_tree.specs.Tree.{Names, ByPath}
 use Rattle.entry_tree.specs.declared.entry.Entry.{Entry}
 use Rattle.entry_tree.specs.declared.entry.Entry.TheVariants as entry
 use Rattle.entry_tree.specs.declared.entry.Stamp.{Stamp}
-use Rattle.entry_tree.proofs.Trees.{tie_is, root_or_child, parent-child}
+use Rattle.entry_tree.proofs.Trees.{tie_is}
 use Rattle.ignore_glob.specs.Grammar.{Meaning}
 use Rattle.roots_api.specs.States.{RootState}
 use Rattle.roots_api.specs.Steps.{answer_of}
 use Rattle.roots_api.specs.declared.answer.Answer.{Answer}
 use Rattle.roots_api.specs.declared.answer.Answer.TheVariants.{Listed, Held, Piece, Changed, TooLarge, Cleared, Opened, Kept, NotStaged, DigestDiffers, Done, NoParent, Differs, NoLink, NoExec, NotEmpty, Full, Failed}
-use Rattle.roots_api.specs.declared.op.Op.{Op}
 use Rattle.roots_api.specs.declared.op.Op.TheVariants.{List as OpList, Fetch}
-use Rattle.scan_cache.specs.Cache.{digest_for, line_of, with_line}
+use Rattle.scan_cache.specs.Cache.{digest_for, line_of}
 use Rattle.scan_cache.specs.declared.line.Line.{Line}
 use Rattle.scan_core.specs.Board.{left_alone}
-use Rattle.scan_core.specs.Scan.{ScanState, learns_piece, learns_fetch}
 use Rattle.scan_core.specs.declared.wanted.Next.{Next}
-use Rattle.scan_core.specs.declared.wanted.Wanted.{Wanted}
-use Rattle.scan_core.specs.declared.wanted.Wanted.TheVariants.{Names as WantedNames, Content}
 use Rattle.scan_laws.specs.Meeting.{spared_by}
 use Rattle.scan_laws.specs.Seen.{Heard, is_last, piece_len, rows_of, held_by}
-use Rattle.scan_laws.proofs.Heard.{Quiet, held_same, row_in, row_same, folder_listed}
-use Rattle.scan_laws.proofs.Needs.{NeedsNames, NeedsContent, needs_names, needs_content}
-use Rattle.scan_laws.proofs.Points.{Bytes, with_heard, listed_in, fetched_in, held_in, listed-other, listed-here, fetched-list, listed-fetch, fetched-other, fetched-here, problem_of, need_in}
+use Rattle.scan_laws.proofs.Heard.{Quiet, row_in, row_same}
+use Rattle.scan_laws.proofs.Needs.{NeedsNames, NeedsContent}
+use Rattle.scan_laws.proofs.Points.{Bytes, with_heard, listed_in, fetched_in, held_in, listed-other, fetched-list, listed-fetch, fetched-other, fetched-here, problem_of}
 use Rattle.scan_laws.proofs.Seeing.{itself}
 use Rattle.scan_laws.proofs.Staying.{held_elsewhere, unlisted_child, listed_here, rows_before, file_stays_held, held_as_before}
 
@@ -205,7 +200,7 @@ module _ (rules : List Meaning) (size : ℕ) (before : ByPath Line) (s : RootSta
       (needs : NeedsContent rules size (spared_by before) p (fetched_in rules size hs p) (held_in rules size hs p) stamp exec) (counted : sum_by (piece_len length) (fetched_in rules size hs p) ≡ length begun)
       (on : answer ≡ answer_of s id (Fetch p stamp (length begun))) (others : (q : Names) → eq_by_cmp path_cmp q p ≡ false → map.get after q ≡ map.get cache q)
       (here_learnt : problem_of rules size (fetched_in rules size hs p ++ answer ∷ []) ≡ None → list_any is_last (fetched_in rules size hs p ++ answer ∷ []) ≡ true
-          → digest_for after p stamp ≡ Some (sha256 (joined (fetched_in rules size hs p ++ answer ∷ [])))) where
+      → digest_for after p stamp ≡ Some (sha256 (joined (fetched_in rules size hs p ++ answer ∷ [])))) where
     abbrev fetched_too : List (Heard Bytes)
     fetched_too = with_heard hs (Fetch p stamp (length begun)) answer
 

@@ -1,17 +1,17 @@
 -- How many rows a scan of a state lists, and when it ends.
-use Rattle.std.proofs.Common.{◌≡◌, ◌⊎◌, inl, inr, ℕ, ◌+◌, ◌<◌, ◌≤◌, Bool, true, false, not, cond, ◌&&◌, List, [], ◌∷◌, ◌++◌, length, filter, take, drop, nat_lt, nat_le, refl, sym, ap, subst, ◌∙◌, Option, Some, None, option_map, option_and_then, arith}
+use Rattle.std.proofs.Common.{◌≡◌, inl, inr, ℕ, ◌+◌, ◌<◌, ◌≤◌, Bool, true, false, not, cond, ◌&&◌, List, [], ◌∷◌, ◌++◌, length, take, drop, nat_lt, nat_le, refl, sym, ap, subst, ◌∙◌, Option, Some, None, option_and_then, arith}
 use Rattle.std.specs.Prelude.{unwrap_or}
 use Rattle.std.specs.FinMap as map
 use Rattle.std.specs.Option.{is_some}
 use Rattle.std.proofs.lemmas.Bool.{ltb-true}
 use Rattle.std.proofs.lemmas.List.{append_assoc, append-nil}
-use Rattle.sync_path.specs.Path.{path_cmp, parent_of}
+use Rattle.sync_path.specs.Path.{parent_of}
 use Rattle.entry_tree.specs.Entry.{is_dir}
 use Rattle.entry_tree.specs.Tree.{Names, ByPath, IsClosed, holds_folder, is_below, children_below}
 use Rattle.entry_tree.specs.declared.entry.Entry.{Entry}
 use Rattle.entry_tree.specs.declared.entry.Entry.TheVariants as entry
 use Rattle.entry_tree.specs.declared.entry.Stamp.{Stamp}
-use Rattle.entry_tree.proofs.Trees.{root_or_child, parent-child}
+use Rattle.entry_tree.proofs.Trees.{root_or_child}
 use Rattle.ignore_glob.specs.Grammar.{Meaning}
 use Rattle.roots_api.specs.Logs.{rows_in}
 use Rattle.roots_api.specs.States.{RootState, content_of, has_stamp}
@@ -39,10 +39,10 @@ use Rattle.scan_laws.specs.Seen.{Heard}
 use Rattle.scan_laws.specs.Undisturbed.{AnsweredOn, IsUndisturbed, look_rows, WholeListsLookRows, EndsOn, EndsByRowsAlone}
 use Rattle.scan_laws.proofs.Boards.{is_none}
 use Rattle.scan_laws.proofs.Bounding.{rows_join, rows_counted}
-use Rattle.scan_laws.proofs.Counting.{filter_none, filter_same_on, weaker, entries_stand, below_root, has_rows, rowed, count_rowed, rowed_child, rows_count, held_counts_none, fetch_counts_none, rowed_reached, rows_within}
+use Rattle.scan_laws.proofs.Counting.{filter_none, filter_same_on, weaker, entries_stand, has_rows, rowed, count_rowed, rowed_child, rows_count, held_counts_none, fetch_counts_none, rowed_reached, rows_within}
 use Rattle.scan_laws.proofs.Going.{told_ties, new_tied}
 use Rattle.scan_laws.proofs.Heard.{Quiet}
-use Rattle.scan_laws.proofs.Looking.{reached_child, folder_is, nothing_at, unlisted_folder, all_reached}
+use Rattle.scan_laws.proofs.Looking.{reached_child, folder_is, unlisted_folder, all_reached}
 use Rattle.scan_laws.proofs.Meeting.{whole_wants_nothing, ready_now, tied_now}
 use Rattle.scan_laws.proofs.Needs.{needs_names, wanted_some}
 use Rattle.scan_laws.proofs.Points.{Bytes, with_heard, listed_in, fetched_in, held_in, need_in}
@@ -65,10 +65,10 @@ module _ (rules : List Meaning) (size : ℕ) (before : ByPath Line) (s : RootSta
         (elim (holds_folder is_dir (map.get s.tree p)) as (λ c. Counts (with_heard hs (OpList p) (cond c (Listed (children_below s.tree p)) (Held (map.get s.tree p))))) [
           | true ↦ heard_one entries hs (OpList p) (Listed (children_below s.tree p)) ∙ ap (λ n. n + length (children_below s.tree p)) counts ∙ sym (rows_count rules size s hs p unlisted (children_below s.tree p) refl)
           | false ↦
-            (let e : rows_heard (with_heard hs (OpList p) (Held (map.get s.tree p))) ≡ rows_heard hs + 0 = heard_one entries hs (OpList p) (Held (map.get s.tree p)) in
-            let f : count_rowed rules size s (with_heard hs (OpList p) (Held (map.get s.tree p))) ≡ count_rowed rules size s hs = held_counts_none rules size s hs p unlisted (map.get s.tree p) in
-            let g : rows_heard hs ≡ count_rowed rules size s hs = counts in
-            omega arith)
+              (let e : rows_heard (with_heard hs (OpList p) (Held (map.get s.tree p))) ≡ rows_heard hs + 0 = heard_one entries hs (OpList p) (Held (map.get s.tree p)) in
+              let f : count_rowed rules size s (with_heard hs (OpList p) (Held (map.get s.tree p))) ≡ count_rowed rules size s hs = held_counts_none rules size s hs p unlisted (map.get s.tree p) in
+              let g : rows_heard hs ≡ count_rowed rules size s hs = counts in
+              omega arith)
         ])
 
     piece_rows : (content : List ℕ) (offset : ℕ) → rows_in (piece_of content offset) ≡ 0
@@ -133,11 +133,11 @@ module _ (rules : List Meaning) (size : ℕ) (before : ByPath Line) (s : RootSta
         elim (root_or_child q) [
           | inl is_root ↦ absurd (let clash : false ≡ true = sym (ap (λ r. is_below r [] && is_reached rules r) is_root) ∙ h in cc)
           | inr child ↦
-            (let parts = true_parts (is_below q []) (is_reached rules q) h in
-            let above = true_parts (is_reached rules child.0) (not (ignores rules child.0 true)) (sym (reached_child rules child.0 child.1) ∙ ap (is_reached rules) (sym child.2) ∙ parts.1) in
-            let folder = folder_is (map.get s.tree child.0) (closed child.0 child.1 (ap (λ r. is_some (map.get s.tree r)) (sym child.2) ∙ ap is_some there)) in
-            ap (rowed rules size s hs) child.2 ∙ rowed_child rules size s hs child.0 child.1
-            ∙ rows_on child.0 (listed_in rules size hs child.0) refl above.0 (not_ignored (ignores rules child.0 true) above.1) folder)
+              (let parts = true_parts (is_below q []) (is_reached rules q) h in
+              let above = true_parts (is_reached rules child.0) (not (ignores rules child.0 true)) (sym (reached_child rules child.0 child.1) ∙ ap (is_reached rules) (sym child.2) ∙ parts.1) in
+              let folder = folder_is (map.get s.tree child.0) (closed child.0 child.1 (ap (λ r. is_some (map.get s.tree r)) (sym child.2) ∙ ap is_some there)) in
+              ap (rowed rules size s hs) child.2 ∙ rowed_child rules size s hs child.0 child.1
+              ∙ rows_on child.0 (listed_in rules size hs child.0) refl above.0 (not_ignored (ignores rules child.0 true) above.1) folder)
         ]
 
     same_test : (a b : Bool) → (a ≡ true → b ≡ true) → (b ≡ true → a ≡ true) → a ≡ b

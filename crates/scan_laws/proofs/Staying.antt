@@ -1,40 +1,22 @@
 -- What one answer more leaves as it was held.
-use Rattle.std.proofs.Common.{◌≡◌, ◌⊎◌, inl, inr, ℕ, ◌+◌, ◌==◌, Bool, true, false, not, cond, ◌||◌, List, [], ◌∷◌, ◌++◌, length, nat_lt, sum_by, flat_map, refl, sym, ap, subst, ◌∙◌, Option, Some, None, arith}
-use Rattle.std.specs.Prelude.{⊤, unwrap_or}
-use Rattle.std.specs.FinMap as map
-use Rattle.std.specs.List.{list_any}
-use Rattle.std.specs.Option.{is_some, option_and_then}
+use Rattle.std.proofs.Common.{◌≡◌, inl, inr, ℕ, Bool, true, false, List, refl, sym, ap, ◌∙◌, Option, Some, None}
+use Rattle.std.specs.Prelude.{unwrap_or}
 use Rattle.std.specs.Ordering.{eq_by_cmp}
-use Rattle.std.proofs.lemmas.Grind.{flat_map-append}
-use Rattle.std.proofs.lemmas.List.{append_assoc, append-nil, length-append, nil_from_length}
-use Rattle.std.proofs.lemmas.List.Sums.{sum_by-append, sum_by-cons}
-use Rattle.sha2.specs.Sha256.{sha256}
 use Rattle.sync_path.specs.Path.{path_cmp, parent_of}
-use Rattle.sync_path.specs.PathOrder.{path_cmp_total}
 use Rattle.entry_tree.specs.Tree.{Names, ByPath}
 use Rattle.entry_tree.specs.declared.entry.Entry.{Entry}
 use Rattle.entry_tree.specs.declared.entry.Entry.TheVariants as entry
 use Rattle.entry_tree.specs.declared.entry.Stamp.{Stamp}
 use Rattle.entry_tree.proofs.Trees.{tie_is, root_or_child, parent-child}
 use Rattle.ignore_glob.specs.Grammar.{Meaning}
-use Rattle.roots_api.specs.States.{RootState}
-use Rattle.roots_api.specs.Steps.{answer_of}
 use Rattle.roots_api.specs.declared.answer.Answer.{Answer}
-use Rattle.roots_api.specs.declared.answer.Answer.TheVariants.{Listed, Held, Piece, Changed, TooLarge, Cleared, Opened, Kept, NotStaged, DigestDiffers, Done, NoParent, Differs, NoLink, NoExec, NotEmpty, Full, Failed}
-use Rattle.roots_api.specs.declared.op.Op.{Op}
 use Rattle.roots_api.specs.declared.op.Op.TheVariants.{List as OpList, Fetch}
-use Rattle.scan_cache.specs.Cache.{digest_for, line_of, with_line}
 use Rattle.scan_cache.specs.declared.line.Line.{Line}
-use Rattle.scan_core.specs.Board.{left_alone}
-use Rattle.scan_core.specs.Scan.{ScanState, learns_piece, learns_fetch}
-use Rattle.scan_core.specs.declared.wanted.Next.{Next}
-use Rattle.scan_core.specs.declared.wanted.Wanted.{Wanted}
-use Rattle.scan_core.specs.declared.wanted.Wanted.TheVariants.{Names as WantedNames, Content}
 use Rattle.scan_laws.specs.Meeting.{spared_by}
-use Rattle.scan_laws.specs.Seen.{Heard, is_last, piece_len, rows_of, held_by}
-use Rattle.scan_laws.proofs.Heard.{Quiet, held_same, row_in, row_same, folder_listed}
-use Rattle.scan_laws.proofs.Needs.{NeedsNames, NeedsContent, needs_names, needs_content}
-use Rattle.scan_laws.proofs.Points.{Bytes, with_heard, listed_in, fetched_in, held_in, listed-other, listed-here, fetched-list, listed-fetch, fetched-other, fetched-here, problem_of, need_in}
+use Rattle.scan_laws.specs.Seen.{Heard, rows_of}
+use Rattle.scan_laws.proofs.Heard.{Quiet, held_same, folder_listed}
+use Rattle.scan_laws.proofs.Needs.{NeedsNames}
+use Rattle.scan_laws.proofs.Points.{Bytes, with_heard, listed_in, held_in, listed-other, listed-here, listed-fetch}
 use Rattle.scan_laws.proofs.Seeing.{itself}
 
 module _ (rules : List Meaning) (size : ℕ) where
@@ -44,8 +26,8 @@ module _ (rules : List Meaning) (size : ℕ) where
       elim (root_or_child q) [
         | inl is_root ↦ (let clash : None ≡ Some f = ap parent_of (sym is_root) ∙ up in absurd (cc))
         | inr child ↦
-          (let folder : child.0 ≡ f = ap (λ (o : Option Names). unwrap_or o child.0) (sym (parent-child child.0 child.1) ∙ ap parent_of (sym child.2) ∙ up) in
-          folder_listed rules size hs quiet child.0 child.1 e (ap (held_in rules size hs) (sym child.2) ∙ held) (ap (listed_in rules size hs) folder ∙ none))
+            (let folder : child.0 ≡ f = ap (λ (o : Option Names). unwrap_or o child.0) (sym (parent-child child.0 child.1) ∙ ap parent_of (sym child.2) ∙ up) in
+            folder_listed rules size hs quiet child.0 child.1 e (ap (held_in rules size hs) (sym child.2) ∙ held) (ap (listed_in rules size hs) folder ∙ none))
       ]
 
   pub unlisted_child : (hs : List (Heard Bytes)) (quiet : Quiet rules size hs) (q f : Names) → parent_of q ≡ Some f → listed_in rules size hs f ≡ None → listed_in rules size hs q ≡ None
@@ -53,8 +35,8 @@ module _ (rules : List Meaning) (size : ℕ) where
       elim (root_or_child q) [
         | inl is_root ↦ (let clash : None ≡ Some f = ap parent_of (sym is_root) ∙ up in absurd (cc))
         | inr child ↦
-          (let folder : child.0 ≡ f = ap (λ (o : Option Names). unwrap_or o child.0) (sym (parent-child child.0 child.1) ∙ ap parent_of (sym child.2) ∙ up) in
-          ap (listed_in rules size hs) child.2 ∙ quiet.unlisted child.0 child.1 (ap (listed_in rules size hs) folder ∙ none))
+            (let folder : child.0 ≡ f = ap (λ (o : Option Names). unwrap_or o child.0) (sym (parent-child child.0 child.1) ∙ ap parent_of (sym child.2) ∙ up) in
+            ap (listed_in rules size hs) child.2 ∙ quiet.unlisted child.0 child.1 (ap (listed_in rules size hs) folder ∙ none))
       ]
 
   -- the answer to a Fetch leaves what is held

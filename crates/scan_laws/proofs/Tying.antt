@@ -1,12 +1,12 @@
 -- A scan's state is what the points say of what was heard.
-use Rattle.std.proofs.Common.{◌≡◌, ◌⊎◌, inl, inr, ℕ, ◌+◌, Bool, true, false, cond, ◌&&◌, ◌||◌, T, List, [], ◌∷◌, ◌++◌, length, nat_lt, sum_by, refl, sym, ap, subst, ◌∙◌, Option, Some, None, IsTrue, arith}
+use Rattle.std.proofs.Common.{◌≡◌, inl, inr, ℕ, Bool, true, false, cond, ◌&&◌, T, List, [], ◌∷◌, ◌++◌, length, sum_by, refl, sym, ap, subst, ◌∙◌, Option, Some, None}
 use Rattle.std.proofs.Common.{map as list_map}
 use Rattle.std.proofs.Common.{IsFalse, option_map}
 use Rattle.std.specs.Prelude.{unwrap_or}
 use Rattle.std.specs.FinMap as map
 use Rattle.std.specs.FinMap.Entries.{below_all}
 use Rattle.std.specs.Cmp.Lexicographic.{slice_cmp}
-use Rattle.std.specs.List.{AllByRecursion, list_any}
+use Rattle.std.specs.List.{AllByRecursion}
 use Rattle.std.specs.List.Sorted.{IsStrictlySortedBy}
 use Rattle.std.specs.Option.{is_some}
 use Rattle.std.specs.Ordering.{nat_cmp, eq_by_cmp, is_lt}
@@ -27,10 +27,9 @@ use Rattle.ignore_glob.specs.Grammar.{Meaning}
 use Rattle.roots_api.specs.Answers.{AreRows}
 use Rattle.roots_api.specs.declared.answer.Answer.{Answer}
 use Rattle.roots_api.specs.declared.answer.Answer.TheVariants.{Listed, Held}
-use Rattle.roots_api.specs.declared.op.Op.{Op}
-use Rattle.roots_api.specs.declared.op.Op.TheVariants.{List as OpList, Fetch}
+use Rattle.roots_api.specs.declared.op.Op.TheVariants.{List as OpList}
 use Rattle.scan_cache.specs.declared.line.Line.{Line}
-use Rattle.scan_core.specs.Board.{shows, placed, with_row, with_rows, first_in, without_in, advanced}
+use Rattle.scan_core.specs.Board.{placed, with_row, with_rows, first_in, without_in, advanced}
 use Rattle.scan_core.specs.Scan.{ScanState}
 use Rattle.scan_core.specs.declared.board.Board.{Board}
 use Rattle.scan_core.specs.declared.wanted.Next.{Next}
@@ -38,11 +37,11 @@ use Rattle.scan_core.specs.declared.wanted.Wanted.{Wanted}
 use Rattle.scan_core.specs.declared.wanted.Wanted.TheVariants.{Names as WantedNames, Content}
 use Rattle.scan_laws.specs.Meeting.{spared_by}
 use Rattle.scan_laws.specs.Standing.{is_file}
-use Rattle.scan_laws.specs.Seen.{Heard, same_path, row_named, rows_of, held_by, piece_len}
+use Rattle.scan_laws.specs.Seen.{Heard, row_named, rows_of, held_by, piece_len}
 use Rattle.scan_laws.proofs.Boards.{put_at, put_nothing, is_none, asked_at_once, shown_at_once, stamped_at_once, nothing_stamped, placed_later, placed_seen, placed_stamps, row_at, over, rows_hold}
 use Rattle.scan_laws.proofs.Firsts.{rest_entries}
-use Rattle.scan_laws.proofs.Heard.{is_named, still_named, named_now, row_names, row_at-named, row_elsewhere, row_in, held_same, held_child, Quiet, folder_listed, some_true}
-use Rattle.scan_laws.proofs.Needs.{Spells, NeedsNames, needs_names, needs_held, need_fresh, settled_fresh}
+use Rattle.scan_laws.proofs.Heard.{is_named, still_named, named_now, row_names, row_at-named, row_elsewhere, row_in, held_same, held_child, Quiet, folder_listed}
+use Rattle.scan_laws.proofs.Needs.{Spells, NeedsNames, needs_names, need_fresh, settled_fresh}
 use Rattle.scan_laws.proofs.Points.{Bytes, with_heard, listed_in, fetched_in, held_in, listed-other, listed-here, fetched-list, atom_of, need, settled, need_in, settled_in}
 use Rattle.scan_laws.proofs.Seeing.{listed as with_folder, listed_stands, child_open, children_open, row_goes, still_open, child_apart, itself}
 use Rattle.scan_laws.proofs.Standing.{Stands, IsOpen, shown_at}
@@ -154,9 +153,11 @@ module _ (rules : List Meaning) (size : ℕ) (before : ByPath Line) where
       left_t : (a b : Bool) → T (a && b) → T a
       left_t true b p = tt
       left_t false b p = p
+
       right_t : (a b : Bool) → T (a && b) → T b
       right_t true b p = p
       right_t false b p = absurd p
+
       less_is : (r : Ordering) → T (is_lt r) → r ≡ Less
       less_is Less p = refl
       less_is Equal p = absurd p
@@ -206,6 +207,7 @@ module _ (rules : List Meaning) (size : ℕ) (before : ByPath Line) where
       front : (a b : Bool) → T (a && b) → T a
       front true b p = tt
       front false b p = p
+
       bare_for : (w : Wanted) (f : List (Answer Bytes)) → f ≡ [] → Bare w f
       bare_for WantedNames f h = h
       bare_for (Content stamp exec) f h = tt
@@ -257,8 +259,8 @@ module _ (rules : List Meaning) (size : ℕ) (before : ByPath Line) where
         elim (root_or_child p) [
           | inl is_root ↦ (let clash : None ≡ Some f = ap parent_of (sym is_root) ∙ up in absurd (cc))
           | inr child ↦
-            (let folder : child.0 ≡ f = some_is child.0 f (sym (parent-child child.0 child.1) ∙ ap parent_of (sym child.2) ∙ up) in
-            folder_listed rules size hs quiet child.0 child.1 entry.Dir (ap (held_in rules size hs) (sym child.2) ∙ needs.held_is) (ap (listed_in rules size hs) folder ∙ none))
+              (let folder : child.0 ≡ f = some_is child.0 f (sym (parent-child child.0 child.1) ∙ ap parent_of (sym child.2) ∙ up) in
+              folder_listed rules size hs quiet child.0 child.1 entry.Dir (ap (held_in rules size hs) (sym child.2) ∙ needs.held_is) (ap (listed_in rules size hs) folder ∙ none))
         ]
       where
         some_is : (x y : Names) → Some x ≡ Some y → x ≡ y
@@ -319,16 +321,16 @@ module _ (rules : List Meaning) (size : ℕ) (before : ByPath Line) where
         lines = list_lines (Held found);
         points = λ q. elim (eq_by_cmp path_cmp q p) as (λ c. eq_by_cmp path_cmp q p ≡ c → PointTied (more (Held found)) after q) [
           | true ↦ λ e. subst (PointTied (more (Held found)) after) (sym (tie_is q p e))
-            (fresh_point (more (Held found)) cache after p found (lines.same p bare) (fetched_as_before (Held found) p ∙ bare) held_here (λ is. absurd (not_dir is))
-            (later p ∙ ap (λ c. cond c (over found (asked_at_once rules cache p) None) (map.get b.later p)) (itself p))
-            (seen p ∙ ap (λ c. cond c (over found (shown_at_once rules cache p) None) (map.get b.seen p)) (itself p))
-            (stamps p ∙ ap (λ c. cond c (over found (stamped_at_once rules cache p) None) (map.get b.stamps p)) (itself p))
-            (λ h. still_named hs (OpList p) (Held found) p course.named))
+              (fresh_point (more (Held found)) cache after p found (lines.same p bare) (fetched_as_before (Held found) p ∙ bare) held_here (λ is. absurd (not_dir is))
+              (later p ∙ ap (λ c. cond c (over found (asked_at_once rules cache p) None) (map.get b.later p)) (itself p))
+              (seen p ∙ ap (λ c. cond c (over found (shown_at_once rules cache p) None) (map.get b.seen p)) (itself p))
+              (stamps p ∙ ap (λ c. cond c (over found (stamped_at_once rules cache p) None) (map.get b.stamps p)) (itself p))
+              (λ h. still_named hs (OpList p) (Held found) p course.named))
           | false ↦ λ e. same_point hs (more (Held found)) b after q (points q e) keeps (list_elsewhere (Held found) q e) (fetched_as_before (Held found) q)
-            (held_same rules size hs (more (Held found)) q (λ f up. rows_as_before f) (list_elsewhere (Held found) q e))
-            (later q ∙ ap (λ c. cond c (over found (asked_at_once rules cache p) None) (map.get b.later q)) e)
-            (seen q ∙ ap (λ c. cond c (over found (shown_at_once rules cache p) None) (map.get b.seen q)) e)
-            (still_named hs (OpList p) (Held found) q)
+              (held_same rules size hs (more (Held found)) q (λ f up. rows_as_before f) (list_elsewhere (Held found) q e))
+              (later q ∙ ap (λ c. cond c (over found (asked_at_once rules cache p) None) (map.get b.later q)) e)
+              (seen q ∙ ap (λ c. cond c (over found (shown_at_once rules cache p) None) (map.get b.seen q)) e)
+              (still_named hs (OpList p) (Held found) q)
         ] refl;
       }
 
@@ -381,10 +383,10 @@ module _ (rules : List Meaning) (size : ℕ) (before : ByPath Line) where
           not_own_parent q up = elim (root_or_child q) [
             | inl is_root ↦ (let clash : None ≡ Some q = ap parent_of (sym is_root) ∙ up in absurd (cc))
             | inr child ↦
-              (let own : child.0 ≡ q = ap (λ (o : Option Names). unwrap_or o q) (sym (parent-child child.0 child.1) ∙ ap parent_of (sym child.2) ∙ up) in
-              let apart : eq_by_cmp path_cmp q q ≡ false = ap (λ z. eq_by_cmp path_cmp z q) child.2 ∙ ap (eq_by_cmp path_cmp (child.0 ++ child.1 ∷ [])) (sym own) ∙ child_apart child.0 child.1 in
-              let clash : true ≡ false = sym (itself q) ∙ apart in
-              absurd (cc))
+                (let own : child.0 ≡ q = ap (λ (o : Option Names). unwrap_or o q) (sym (parent-child child.0 child.1) ∙ ap parent_of (sym child.2) ∙ up) in
+                let apart : eq_by_cmp path_cmp q q ≡ false = ap (λ z. eq_by_cmp path_cmp z q) child.2 ∙ ap (eq_by_cmp path_cmp (child.0 ++ child.1 ∷ [])) (sym own) ∙ child_apart child.0 child.1 in
+                let clash : true ≡ false = sym (itself q) ∙ apart in
+                absurd (cc))
           ]
 
       held_now : held_in rules size told p ≡ Some entry.Dir

@@ -1,61 +1,44 @@
 -- A scan of a root on which nothing changes sees its look.
-use Rattle.std.proofs.Common.{◌≡◌, ◌⊎◌, inl, inr, ℕ, ◌+◌, ◌<◌, ◌≤◌, zero, suc, ◌==◌, Bool, true, false, not, cond, ◌&&◌, ◌||◌, List, [], ◌∷◌, ◌++◌, length, take, drop, nat_lt, nat_le, bytes_eq, filter_map, sum_by, refl, sym, ap, subst, ◌∙◌, Option, Some, None, option_map, option_and_then, arith}
-use Rattle.std.specs.Prelude.{⊤, unwrap_or}
+use Rattle.std.proofs.Common.{◌≡◌, ◌⊎◌, inl, inr, ℕ, ◌+◌, ◌≤◌, zero, suc, ◌==◌, Bool, true, false, cond, ◌||◌, List, [], ◌∷◌, ◌++◌, length, take, drop, nat_lt, nat_le, filter_map, sum_by, refl, sym, ap, subst, ◌∙◌, Option, Some, None, option_and_then, arith}
 use Rattle.std.specs.FinMap as map
 use Rattle.std.specs.List.{list_any, cons_option}
-use Rattle.std.specs.Option.{is_some}
 use Rattle.std.specs.Ordering.{eq_by_cmp}
-use Rattle.std.proofs.lemmas.List.{append_assoc, append-nil, length-append, nil_from_length, take-append-drop, length-take}
+use Rattle.std.proofs.lemmas.List.{append_assoc, append-nil, length-append, nil_from_length, take-append-drop}
 use Rattle.std.proofs.lemmas.Bool.{leb-true}
 use Rattle.std.proofs.Math.Seq.{drop-append_seam}
-use Rattle.std.proofs.lemmas.List.Sums.{sum_by-cons}
 use Rattle.sha2.specs.Sha256.{sha256}
-use Rattle.sync_path.specs.Path.{path_cmp, parent_of}
+use Rattle.sync_path.specs.Path.{path_cmp}
 use Rattle.sync_path.specs.PathOrder.{path_cmp_total}
-use Rattle.entry_tree.specs.Entry.{is_dir}
-use Rattle.entry_tree.specs.Tree.{Names, ByPath, IsClosed, holds_folder, name_below, child_row, children_below}
-use Rattle.entry_tree.specs.declared.atom.Atom.{Atom}
-use Rattle.entry_tree.specs.declared.atom.Atom.TheVariants as atom
-use Rattle.entry_tree.specs.declared.entry.Entry.{Entry}
-use Rattle.entry_tree.specs.declared.entry.Entry.TheVariants as entry
+use Rattle.entry_tree.specs.Tree.{Names, ByPath}
 use Rattle.entry_tree.specs.declared.entry.Stamp.{Stamp}
 use Rattle.entry_tree.specs.declared.problem_kind.ProblemKind.{ProblemKind}
 use Rattle.entry_tree.specs.declared.problem_kind.ProblemKind.TheVariants as problem
-use Rattle.entry_tree.proofs.Paths.{name_itself}
-use Rattle.entry_tree.proofs.Trees.{root_or_child, tie_is, parent-child}
 use Rattle.ignore_glob.specs.Grammar.{Meaning}
 use Rattle.roots_api.specs.States.{RootState, content_of, has_stamp}
 use Rattle.roots_api.specs.Steps.{answer_of, piece_of}
 use Rattle.roots_api.specs.declared.answer.Answer.{Answer}
 use Rattle.roots_api.specs.declared.answer.Answer.TheVariants.{Listed, Held, Piece, Changed, TooLarge, Cleared, Opened, Kept, NotStaged, DigestDiffers, Done, NoParent, Differs, NoLink, NoExec, NotEmpty, Full, Failed}
 use Rattle.roots_api.specs.declared.limits.TheConstants.{MAX_FETCH, MAX_PIECE}
-use Rattle.roots_api.specs.declared.op.Op.{Op}
 use Rattle.roots_api.specs.declared.op.Op.TheVariants.{List as OpList, Fetch}
-use Rattle.roots_api.proofs.ListedRows.{name_below_is}
 use Rattle.scan_cache.specs.Cache.{digest_for, line_of, with_line}
 use Rattle.scan_cache.specs.declared.line.Line.{Line}
 use Rattle.scan_core.specs.Board.{left_alone}
-use Rattle.scan_core.specs.Ignoring.{ignores}
-use Rattle.scan_core.specs.Scan.{ScanState, ScanTold, new_state, state_of, asked, asked_for, asked_at, after_piece, after_fetch, after_wanted, after_asked, after_told, after_all, with_problem, file_done, ends_asked, ends_wanted, ends_fetch, ends_by, learns_piece, learns_fetch, learns_wanted, learns_asked, learns, IsAnswered, AreTaken}
+use Rattle.scan_core.specs.Scan.{ScanState, asked, asked_for, asked_at, after_piece, after_fetch, after_wanted, after_asked, after_told, with_problem, file_done, ends_asked, ends_wanted, ends_fetch, learns_fetch, learns_wanted, learns_asked, learns, IsAnswered, AreTaken}
 use Rattle.scan_core.specs.Told.{Told}
 use Rattle.scan_core.specs.declared.wanted.Next.{Next}
 use Rattle.scan_core.specs.declared.wanted.Wanted.{Wanted}
 use Rattle.scan_core.specs.declared.wanted.Wanted.TheVariants.{Names as WantedNames, Content}
-use Rattle.scan_laws.specs.Bounds.{heard_as, heard_from, heard_by}
+use Rattle.scan_laws.specs.Bounds.{heard_as, heard_from}
 use Rattle.scan_laws.specs.Caches.{IsOneCache}
-use Rattle.scan_laws.specs.Look.{is_reached_from, is_reached, content_atom, look_as, look_atom, look_at}
-use Rattle.scan_laws.specs.Meeting.{HaveRules, IsScanned, spared_by, digest_in}
-use Rattle.scan_laws.specs.Seen.{Heard, first_one, row_named, rows_of, held_by, problem_by, is_last, piece_len, file_atom, wanted_at, seen_at}
-use Rattle.scan_laws.specs.Undisturbed.{AnsweredOn, IsDigestOf, LinesAreOf, IsUndisturbed, UndisturbedSeesLook}
-use Rattle.scan_laws.proofs.Boards.{is_none}
+use Rattle.scan_laws.specs.Meeting.{HaveRules, spared_by}
+use Rattle.scan_laws.specs.Seen.{Heard, problem_by, is_last, piece_len}
+use Rattle.scan_laws.specs.Undisturbed.{AnsweredOn}
 use Rattle.scan_laws.proofs.Fetching.{problem_more, piece_problem, ended_more}
-use Rattle.scan_laws.proofs.Going.{told_ties, all_tied, new_tied}
-use Rattle.scan_laws.proofs.Heard.{row_in, held_child, same_child}
-use Rattle.scan_laws.proofs.Meeting.{whole_sees_seen_tree, whole_wants_nothing}
-use Rattle.scan_laws.proofs.Needs.{needs_names, needs_content, wanted_some}
+use Rattle.scan_laws.proofs.Going.{told_ties}
+use Rattle.scan_laws.proofs.Needs.{needs_names, needs_content}
 use Rattle.scan_laws.proofs.Points.{Bytes, with_heard, listed_in, fetched_in, held_in, problem_of, need_in, need}
-use Rattle.scan_laws.proofs.Reading.{piece_bytes, joined, joined_more, joined_length, FetchedOn, ReadAs, IsRead, IsLearnt, WasFolder, BegunIs, Reads, list_reads, fetch_reads}
-use Rattle.scan_laws.proofs.Seeing.{Ready, NextOpen, all_ready, asked_ready, new_ready, itself}
+use Rattle.scan_laws.proofs.Reading.{piece_bytes, joined, joined_more, joined_length, FetchedOn, BegunIs, Reads, list_reads, fetch_reads}
+use Rattle.scan_laws.proofs.Seeing.{Ready, asked_ready, itself}
 use Rattle.scan_laws.proofs.Tying.{Tied, InCourse, NextTied}
 
 stamp_itself : (n : ℕ) → (n == n) ≡ true
@@ -321,11 +304,11 @@ module _ (s : RootState) (id : ℕ) (q : Names) (stamp : Stamp) (there : has_sta
           unmet = ap (λ (x : Answer Bytes). cons_option (problem_by x) (filter_map problem_by f)) here ∙ r.unmet;
           ended = λ h. elim (either (is_last a) (list_any is_last f) h) [
             | inl now ↦
-              (let whole : last ≡ true = sym (ap is_last here) ∙ now in
-              let all : length content ≤ length front + MAX_PIECE = leb-true (length content) (length front + MAX_PIECE) whole in
-              let sizes : length content ≡ length front + length back = ap length is ∙ length-append front back in
-              let none : behind ≡ [] = nothing_behind MAX_PIECE back (omega arith) in
-              no_more_left (joined f) r.rest (sym none ∙ r.is))
+                (let whole : last ≡ true = sym (ap is_last here) ∙ now in
+                let all : length content ≤ length front + MAX_PIECE = leb-true (length content) (length front + MAX_PIECE) whole in
+                let sizes : length content ≡ length front + length back = ap length is ∙ length-append front back in
+                let none : behind ≡ [] = nothing_behind MAX_PIECE back (omega arith) in
+                no_more_left (joined f) r.rest (sym none ∙ r.is))
             | inr later ↦ r.ended later
           ];
         }

@@ -17,7 +17,7 @@ use Rattle.roots_api.specs.declared.op.Op.{Op}
 use Rattle.roots_api.specs.declared.op.Op.TheVariants.{List as OpList, Fetch}
 use Rattle.scan_cache.specs.declared.line.Line.{Line}
 use Rattle.scan_core.specs.Board.{left_alone}
-use Rattle.scan_core.specs.Scan.{ScanState, ScanTold, new_state, state_of, asked, asked_for, asked_at, after_told, after_all, learns, IsAnswered, AreTaken}
+use Rattle.scan_core.specs.Scan.{ScanState, ScanTold, new_state, state_of, asked, asked_for, asked_at, after_told, learns, AreTaken}
 use Rattle.scan_core.specs.Told.{Told}
 use Rattle.scan_core.specs.declared.wanted.Next.{Next}
 use Rattle.scan_core.specs.declared.wanted.Wanted.{Wanted}
@@ -25,15 +25,14 @@ use Rattle.scan_core.specs.declared.wanted.Wanted.TheVariants.{Names as WantedNa
 use Rattle.scan_laws.specs.Bounds.{heard_as, heard_from, heard_by}
 use Rattle.scan_laws.specs.Caches.{IsOneCache}
 use Rattle.scan_laws.specs.Meeting.{HaveRules, IsScanned, spared_by, WholeHasNoNext, WholeIsWholeScan}
-use Rattle.scan_laws.specs.ScanLists.{rows_heard, goes_on, is_scan_list, is_whole_list, is_unfetched, is_whole_scan}
+use Rattle.scan_laws.specs.ScanLists.{rows_heard, goes_on, is_scan_list, is_unfetched, is_whole_scan}
 use Rattle.scan_laws.specs.Seen.{Heard, is_last, bytes_of, wanted_of, wanted_as, wanted_at, earlier, first_wanted, asked_next, paths_in}
 use Rattle.scan_laws.proofs.Boards.{is_none}
 use Rattle.scan_laws.proofs.Bounding.{told_steps, rows_join}
-use Rattle.scan_laws.proofs.Going.{told_ties, all_tied, new_tied}
-use Rattle.scan_laws.proofs.Heard.{Quiet}
+use Rattle.scan_laws.proofs.Going.{told_ties, new_tied}
 use Rattle.scan_laws.proofs.Meeting.{asks, one_more, asks_what_points_say, asks_a_scans_list, whole_wants_nothing, ready_now, tied_now}
-use Rattle.scan_laws.proofs.Needs.{NeedsNames, NeedsContent, needs_names, needs_content, wanted_some, no_problem_yet}
-use Rattle.scan_laws.proofs.Points.{Bytes, with_heard, listed_in, fetched_in, held_in, fetched-list, fetched-other, problem_of, need, need_as, need_in}
+use Rattle.scan_laws.proofs.Needs.{needs_names, needs_content, wanted_some, no_problem_yet}
+use Rattle.scan_laws.proofs.Points.{Bytes, with_heard, listed_in, fetched_in, held_in, fetched-list, fetched-other, problem_of, need, need_in}
 use Rattle.scan_laws.proofs.Reading.{same_stamps}
 use Rattle.scan_laws.proofs.Seeing.{Ready, asked_ready, new_ready}
 use Rattle.scan_laws.proofs.Staying.{file_stays_held, held_as_before}
@@ -137,7 +136,7 @@ module _ (rules : List Meaning) (size : ℕ) (before : ByPath Line) where
         let later = heard_from size (after_told size s t) ts in
         let here = asked_grows entries cache hs s t.answer tied s.board.next tied.next in
         let rest = all_grow (after_told size s t) ts (hs ++ now) (learns size s t) taken.2 same.1 one.1 (asked_ready size s t s.board.next ready ready.next taken.0)
-            (told_ties entries size rules before cache hs s t same.0 one.0 ready tied taken.0 taken.1) in
+        (told_ties entries size rules before cache hs s t same.0 one.0 ready tied taken.0 taken.1) in
         subst (Grows hs) (append_assoc hs now later) (record { stays = λ q stamp exec held. rest.stays q stamp exec (here.stays q stamp exec held); once = λ all. rest.once (here.once all) })
 
     -- its list, where other files are spared, which are the same among those that are held in the end
@@ -156,7 +155,7 @@ module _ (rules : List Meaning) (size : ℕ) (before : ByPath Line) where
           let joined : rows_heard (hs ++ now) ≡ rows_heard hs + rows_heard now = rows_join entries size hs now in
           let grown = all_grow s (t ∷ ts) hs cache taken same one ready tied in
           let is = asks rules size before cache hs s ready tied
-              ∙ sym (same_asked rules size hs spares (spared_by before) (λ q stamp exec held followed. agree q stamp exec (grown.stays q stamp exec held) followed)) in
+          ∙ sym (same_asked rules size hs spares (spared_by before) (λ q stamp exec held followed. agree q stamp exec (grown.stays q stamp exec held) followed)) in
           one_more entries size rules spares s t hs later s.board.next is counted fits taken.0 taken.1
           (listed_so (after_told size s t) ts (hs ++ now) (learns size s t) taken.2 same.1 one.1 (asked_ready size s t s.board.next ready ready.next taken.0)
           (told_ties entries size rules before cache hs s t same.0 one.0 ready tied taken.0 taken.1) (subst Agrees (sym (append_assoc hs now later)) agree) (omega arith) (steps.fits fits))

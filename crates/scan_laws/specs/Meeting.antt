@@ -1,5 +1,5 @@
 -- A scan asks and sees what the points say.
-use Rattle.std.specs.Prelude.{◌≡◌, ℕ, true, List, [], ◌∷◌, length, unwrap_or, Option, None, is_some, ⊤, Bool, not}
+use Rattle.std.specs.Prelude.{◌≡◌, ℕ, true, List, [], ◌∷◌, length, unwrap_or, None, is_some, ⊤, Bool, not}
 use Rattle.std.specs.FinMap as map
 use Rattle.entry_tree.specs.Tree.{Names, ByPath}
 use Rattle.entry_tree.specs.declared.entry.Stamp.{Stamp}
