@@ -1,0 +1,10 @@
+mod Accounts
+mod Few
+mod Following
+mod Passing
+mod Pending
+mod Pieces
+mod Runs
+mod Stopping
+mod Telling
+mod Whole
