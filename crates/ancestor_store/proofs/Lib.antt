@@ -1,3 +1,9 @@
 pub mod BadFrames
+pub mod Committed
 pub mod KeptFrames
 pub mod Opened
+pub mod Outcomes
+pub mod Settled
+pub mod TreeEntries
+pub mod Uptaking
+pub mod Values

@@ -1,37 +1,32 @@
 //! The ancestor of a session.
-ghost use Rattle.std.specs.Prelude.{◌≡◌, ℕ, IfOk, IfSome, OnOk, Err, Some, None};
-ghost use Rattle.frame_text.specs.Folds.{FoldsTo, IsBadFrame, first_payload, unfolded, with_payload};
+ghost use Rattle.std.specs.Prelude.{◌≡◌, ◌≢◌, ◌≤◌, ℕ, IfOk, IfSome, IsSome, OnOk, OnErr, Err, Some};
+ghost use Rattle.fault_count.specs.Rose.{Rose};
+ghost use Rattle.finite_maps.specs.Told.{WhereTold};
+ghost use Rattle.frame_text.specs.Folds.{FoldsTo, IsBadFrame, unfolded};
+ghost use Rattle.frame_text.specs.Frames.{frame_bytes, payload_of};
+ghost use Rattle.frame_text.specs.Payloads.{Spells};
+ghost use Rattle.frame_text.specs.declared.frame.KeepKey.{KeepKey};
 ghost use Rattle.frame_text.specs.declared.frame.KeepKey.TheVariants.{Session};
-ghost use Rattle.frame_text.specs.declared.payload.PayloadError.TheVariants.{Bad};
-ghost use Rattle.mode_rules.specs.AncestorFold.{with_lines};
+ghost use Rattle.frame_text.specs.declared.payload.Payload.{Payload};
+ghost use Rattle.ancestor_store.specs.Committing.{with_frame};
+ghost use Rattle.ancestor_store.specs.Keeping.{Appends};
 ghost use Rattle.ancestor_store.specs.declared.ancestor.OpenError.TheVariants.{BadFrame};
+ghost use Rattle.ancestor_store.specs.declared.keeper.KeepError.TheVariants.{Fault};
 
-use crate::keeper::Archive;
+use crate::fold::Fold;
+use crate::keeper::{Archive, KeepError, Keeper};
 use crate::opening::folded;
-use entry_tree::{Tree, TreeError};
-use frame_text::{KeepKey, Payload, PayloadError};
-use mode_rules::AncestorLine;
+use entry_tree::Tree;
+use frame_text::{Frame, KeepKey};
 use std::alloc::{AllocError, Global};
-use std::marker::Model;
 use thiserror::Error;
 
 /// What both sides of a session came to agree on, as its kept frames say: a tree, and the number of the reset that was served last.
-/// Contracts see both, which are the fold of the frames (`specs/Folds.antt` of `frame_text`).
+/// Contracts see the session's identifier, and the fold of its frames (`specs/Folds.antt` of `frame_text`).
 #[derive(Drop)]
 pub struct Ancestor {
-    tree: Tree,
-    served: u64,
-}
-
-impl Model for Ancestor {
-    ghost use Rattle.frame_text.specs.Folds.{Folded};
-    ghost use Rattle.ancestor_store.specs.Codes.{folded_code};
-
-    ghost Value = { Folded };
-
-    ghost coded = { folded_code };
-
-    ghost view = { λ a. record { tree = a.tree; served = a.served } };
+    id: u128,
+    fold: Fold,
 }
 
 /// Why an ancestor was not opened.
@@ -60,89 +55,85 @@ impl Ancestor {
     ///
     /// `BadFrame` names the first frame that spells no payload, or one that can't stand where it does.
     pub fn open_from<A: Archive>(alloc: Global, keeper: &A, id: u128) -> Result<Ancestor, OpenError>
-        ensures value { IfOk result (λ ancestor. IfSome (A.told keeper.now (Session id)) (λ frames. FoldsTo frames ancestor)) }
+        ensures session { IfOk result (λ ancestor. ancestor.id ≡ id) }
+        ensures value { IfOk result (λ ancestor. IfSome (A.told keeper.now (Session id)) (λ frames. FoldsTo frames ancestor.fold)) }
         ensures bad { (number : ℕ) → result ≡ Err (BadFrame number) → IfSome (A.told keeper.now (Session id)) (λ frames. IsBadFrame frames number) }
     {
         let frames = keeper.frames(alloc, KeepKey::Session(id))?;
-        folded(alloc, frames.as_slice())
+        match folded(alloc, frames.as_slice()) {
+            Ok(fold) => Ok(Ancestor { id, fold }),
+            Err(error) => Err(error),
+        }
     }
 
     /// What both sides agreed on. It takes no memory.
     pub fn tree(&self) -> &Tree
-        ensures { result.now ≡ self.now.tree }
+        ensures { result.now ≡ self.now.fold.tree }
     {
-        &self.tree
+        self.fold.tree()
     }
 
     /// The number of the reset that was served last, or 0. It takes no memory.
     pub fn served(&self) -> u64
-        ensures { result ≡ self.now.served }
+        ensures { result ≡ self.now.fold.served }
     {
-        self.served
+        self.fold.served()
     }
 
     /// The ancestor of a session without frames. It takes no memory.
-    pub fn new(alloc: Global) -> Ancestor
-        ensures { result ≡ unfolded }
+    pub fn new(alloc: Global, id: u128) -> Ancestor
+        ensures session { result.id ≡ id }
+        ensures value { result.fold ≡ unfolded }
     {
         Ancestor {
-            tree: Tree::new(alloc),
-            served: 0,
+            id,
+            fold: Fold::new(alloc),
         }
     }
 
-    // The ancestor of a session whose first payload this is.
-    pub(crate) fn first(alloc: Global, payload: Payload) -> Result<Ancestor, PayloadError>
-        ensures value { IfOk result (λ ancestor. first_payload payload ≡ Some ancestor) }
-        ensures bad { result ≡ Err Bad → first_payload payload ≡ None }
+    /// Appends a frame behind those of the session, and takes it up.
+    ///
+    /// The caller sees to it that the fold takes the frame: it is a session's, and its lines can be taken up. After an `Err` the ancestor is as it was,
+    /// and so are the kept frames; with want of memory nothing is appended.
+    ///
+    /// Cost: the frame's bytes, O(log n) comparisons of paths for each of its lines and each entry that goes, and one more for each folder above a line's path.
+    /// Nothing copies the tree: new paths are put in before the append, and what goes is taken out behind it.
+    pub fn commit<K: Keeper>(
+        &mut self,
+        alloc: Global,
+        keeper: &mut K,
+        frame: &Frame,
+    ) -> Result<(), KeepError>
+        requires { IsSome (with_frame self.old.fold frame.now) }
+        ensures session { self.new.id ≡ self.old.id }
+        ensures taken { OnOk result (with_frame self.old.fold frame.now ≡ Some self.new.fold) }
+        ensures refused { OnErr result (self.new.fold ≡ self.old.fold) }
+        ensures frames { WhereTold (K.told keeper.old (Session self.old.id)) (K.told keeper.new (Session self.old.id)) (Appends frame.now result) }
+        ensures others { (other : KeepKey) → other ≢ Session self.old.id → K.told keeper.new other ≡ K.told keeper.old other }
+        ensures counts { K.faults keeper.old ≤ K.faults keeper.new }
+        ensures fault { result ≡ Err Fault → Rose (K.faults keeper.old) (K.faults keeper.new) }
+        ensures no_fault { result ≢ Err Fault → K.faults keeper.new ≡ K.faults keeper.old }
+        ensures fold { WhereTold (K.told keeper.old (Session self.old.id)) (K.told keeper.new (Session self.old.id)) (λ old new. FoldsTo old self.old.fold → FoldsTo new self.new.fold) }
     {
-        let mut ancestor = Ancestor::new(alloc);
-        match payload {
-            Payload::Agree { lines, .. } => {
-                take_lines(alloc, &mut ancestor.tree, lines.as_slice())?;
-            }
-            Payload::Reset(number) => {
-                ancestor.served = number;
-            }
-            Payload::Whole { served, lines, .. } => {
-                take_lines(alloc, &mut ancestor.tree, lines.as_slice())?;
-                ancestor.served = served;
-            }
-        }
-        Ok(ancestor)
-    }
-
-    // Takes up a payload behind others.
-    pub(crate) fn take(&mut self, alloc: Global, payload: Payload) -> Result<(), PayloadError>
-        ensures value { OnOk result (with_payload self.old payload ≡ Some self.new) }
-        ensures bad { result ≡ Err Bad → with_payload self.old payload ≡ None }
-    {
-        match payload {
-            Payload::Agree { lines, .. } => take_lines(alloc, &mut self.tree, lines.as_slice()),
-            Payload::Reset(number) => {
-                self.tree = Tree::new(alloc);
-                self.served = number;
-                Ok(())
-            }
-            Payload::Whole { .. } => Err(PayloadError::Bad),
-        }
+        can_be_spelt(frame);
+        self.fold
+            .commit(alloc, keeper, KeepKey::Session(self.id), frame)
     }
 }
 
-// Takes up lines, one after another.
-fn take_lines(alloc: Global, tree: &mut Tree, lines: &[AncestorLine]) -> Result<(), PayloadError>
-    ensures value { OnOk result (with_lines tree.old lines.now ≡ Some tree.new) }
-    ensures bad { result ≡ Err Bad → with_lines tree.old lines.now ≡ None }
+// What a frame holds can be spelt. It does nothing.
+fn can_be_spelt(frame: &Frame)
+    ensures { (payload : Payload) → payload_of frame.now ≡ Some payload → Spells (frame_bytes frame.now) payload }
 {
-    let mut rest = lines;
-    while let [line, behind @ ..] = rest {
-        match line.apply(alloc, tree) {
-            Ok(()) => {}
-            Err(TreeError::NoParent) => return Err(PayloadError::Bad),
-            Err(TreeError::NotDir) => return Err(PayloadError::Bad),
-            Err(TreeError::Memory) => return Err(PayloadError::Memory),
+    match frame {
+        Frame::Agree { run, cycle, lines } => {
+            let _run = *run;
+            let _cycle = *cycle;
+            let _ = lines.as_slice();
         }
-        rest = behind;
+        Frame::Reset(number) => {
+            let _ = number.get();
+        }
+        Frame::Table(_) => {}
     }
-    Ok(())
 }

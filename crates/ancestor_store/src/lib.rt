@@ -14,11 +14,15 @@
 #![tactic(auto)]
 
 mod ancestor;
+mod committing;
+mod fold;
 mod keeper;
 pub mod laws;
 mod lent;
 mod mem_keeper;
 mod opening;
+mod outcome;
+mod uptake;
 
 pub use ancestor::{Ancestor, OpenError};
 pub use keeper::{Archive, KeepError, Keeper};

@@ -6,23 +6,24 @@ ghost use Rattle.ancestor_store.specs.Keeping.{bytes_of};
 ghost use Rattle.ancestor_store.specs.Opening.{IsFirst, IsNext, NoFirst, NoNext};
 ghost use Rattle.ancestor_store.specs.declared.ancestor.OpenError.TheVariants.{BadFrame};
 
-use crate::ancestor::{Ancestor, OpenError};
+use crate::ancestor::OpenError;
+use crate::fold::Fold;
 use frame_text::{PayloadError, read_payload};
 use std::alloc::Global;
 
 // The ancestor of a session whose first frame has these bytes.
-fn first_frame(alloc: Global, bytes: &[u8]) -> Result<Ancestor, PayloadError>
+fn first_frame(alloc: Global, bytes: &[u8]) -> Result<Fold, PayloadError>
     ensures value { IfOk result (IsFirst bytes.now) }
     ensures bad { result ≡ Err Bad → NoFirst bytes.now }
 {
     match read_payload(alloc, bytes) {
-        Ok(payload) => Ancestor::first(alloc, payload),
+        Ok(payload) => Fold::first(alloc, payload),
         Err(error) => Err(error),
     }
 }
 
 // Takes up a frame behind others.
-fn next_frame(alloc: Global, ancestor: &mut Ancestor, bytes: &[u8]) -> Result<(), PayloadError>
+fn next_frame(alloc: Global, ancestor: &mut Fold, bytes: &[u8]) -> Result<(), PayloadError>
     ensures value { OnOk result (IsNext ancestor.old bytes.now ancestor.new) }
     ensures bad { result ≡ Err Bad → NoNext ancestor.old bytes.now }
 {
@@ -33,12 +34,12 @@ fn next_frame(alloc: Global, ancestor: &mut Ancestor, bytes: &[u8]) -> Result<()
 }
 
 /// The ancestor of a session with these frames. Cost: as that of `Ancestor::open_from`.
-pub(crate) fn folded(alloc: Global, frames: &[Vec<u8>]) -> Result<Ancestor, OpenError>
+pub(crate) fn folded(alloc: Global, frames: &[Vec<u8>]) -> Result<Fold, OpenError>
     ensures value { IfOk result (FoldsTo (bytes_of frames.now)) }
     ensures bad { (number : ℕ) → result ≡ Err (BadFrame number) → IsBadFrame (bytes_of frames.now) number }
 {
     match frames.split_first() {
-        None => Ok(Ancestor::new(alloc)),
+        None => Ok(Fold::new(alloc)),
         Some((first, behind)) => match first_frame(alloc, first.as_slice()) {
             Ok(ancestor) => folded_behind(alloc, ancestor, first.as_slice(), behind),
             Err(PayloadError::Bad) => Err(OpenError::BadFrame { number: 0 }),
@@ -50,10 +51,10 @@ pub(crate) fn folded(alloc: Global, frames: &[Vec<u8>]) -> Result<Ancestor, Open
 // The same, where the ancestor has taken up the first frame.
 fn folded_behind(
     alloc: Global,
-    ancestor: Ancestor,
+    ancestor: Fold,
     first: &[u8],
     behind: &[Vec<u8>],
-) -> Result<Ancestor, OpenError>
+) -> Result<Fold, OpenError>
     requires { IsFirst first.now ancestor }
     ensures value { IfOk result (FoldsTo (first.now ∷ bytes_of behind.now)) }
     ensures bad { (number : ℕ) → result ≡ Err (BadFrame number) → IsBadFrame (first.now ∷ bytes_of behind.now) number }

@@ -1,6 +1,11 @@
-//! Tests of what no clause says: folds of frames written out by hand, and a keeper that fails once and goes on.
+//! Tests of what no clause says: folds of frames written out by hand, a keeper that fails once and goes on, and what a commit makes of an ancestor.
+ghost use Rattle.std.specs.Prelude.{IfOk, IsSome, IsTrue};
+ghost use Rattle.ancestor_store.specs.Committing.{with_frame};
+
+use crate::fold::take_lines;
 use crate::{Ancestor, Archive, KeepError, Keeper, Kept, MemKeeper, OpenError};
-use frame_text::{Frame, KeepKey, ResetNumber};
+use entry_tree::{write_atom, write_path};
+use frame_text::{AgreedLines, Frame, KeepKey, Payload, ResetNumber, read_payload};
 use sqlite_items::Items;
 use std::alloc::{AllocError, Global};
 use std::test::Fail;
@@ -20,17 +25,22 @@ bad 1#v1 reset 1#v2 whole 1 9 4|set . dir
 bad 2#v1 reset 1#v1 reset 2#v1 reset 0
 bad 0#v1 opened";
 
+// A text's bytes, with an LF for each `|`.
+fn bytes_of(alloc: Global, text: &str) -> Result<Vec<u8>, AllocError> {
+    let mut bytes = Vec::new(alloc);
+    for b in text.as_bytes() {
+        bytes.push(if *b == b'|' { b'\n' } else { *b })?;
+    }
+    Ok(bytes)
+}
+
 // The frames of a row, as those of session 5.
 fn kept_of(alloc: Global, frames: &str) -> Result<Vec<Kept>, AllocError> {
     let mut kept = Vec::new(alloc);
     for frame in frames.split('#') {
-        let mut bytes = Vec::new(alloc);
-        for b in frame.as_bytes() {
-            bytes.push(if *b == b'|' { b'\n' } else { *b })?;
-        }
         kept.push(Kept {
             key: KeepKey::Session(5),
-            bytes: Items::from_vec(bytes),
+            bytes: Items::from_vec(bytes_of(alloc, frame)?),
         })?;
     }
     Ok(kept)
@@ -78,6 +88,111 @@ fn a_keeper_fails_once_and_goes_on(rt: HostRuntime) -> Result<(), Fail> {
     assert_eq!(rt; frames.len(), 1);
     for frame in &frames {
         assert_eq!(rt; frame.as_slice(), b"v1 reset 3".as_slice());
+    }
+    Ok(())
+}
+
+// Each row has the frames of a session, each behind a `#`, with `|` for LF; behind a `>` a frame that is committed, and behind another what the ancestor
+// holds then.
+const COMMITS: &str = "\
+#v2 agree 1 1|set . dir>v2 agree 1 2|set a dir|set a/b link =x|drop a>. dir|
+#v2 agree 1 1|set . dir|set a dir|set a/b link =x>v2 agree 1 2|drop a|set a link =y>. dir|a link =y|
+#v2 agree 1 1|set . dir|set a dir|set a/b link =x>v2 agree 1 2|set a link =y>. dir|a link =y|
+#v2 agree 1 1|set . dir|set a link =x>v2 agree 1 2|drop a|set a dir|set a/b link =y|set a/c dir>. dir|a dir|a/b link =y|a/c dir|
+#v2 agree 1 1|set . dir|set a dir|set a/b link =x|set a/c dir>v2 agree 1 2|drop a/b|drop a|set a dir|set a/b link =z>. dir|a dir|a/b link =z|
+#v2 agree 1 1|set . dir|set a dir|set a/b dir|set a/b/c dir>v2 agree 1 2|set a link =y|set a dir|set a/d link =z>. dir|a dir|a/d link =z|
+#v2 agree 1 1|set . dir|set b dir>v1 reset 3>";
+
+// The frame with this text, if it is one that can be kept.
+fn frame_of(alloc: Global, text: &str) -> Result<Option<Frame>, AllocError> {
+    let bytes = bytes_of(alloc, text)?;
+    match read_payload(alloc, bytes.as_slice()) {
+        Ok(
+            Payload::Agree {
+                run,
+                cycle,
+                lines,
+                ..
+            },
+        ) => match AgreedLines::of(lines) {
+            Some(lines) => Ok(Some(Frame::Agree { run, cycle, lines })),
+            None => Ok(None),
+        },
+        Ok(Payload::Reset(number)) => match ResetNumber::of(number) {
+            Some(number) => Ok(Some(Frame::Reset(number))),
+            None => Ok(None),
+        },
+        _ => Ok(None),
+    }
+}
+
+// Whether the ancestor can take the frame.
+fn takes(alloc: Global, ancestor: &Ancestor, frame: &Frame) -> Result<bool, AllocError>
+    ensures { IfOk result (λ taken. IsTrue taken → IsSome (with_frame ancestor.now.fold frame.now)) }
+{
+    match frame {
+        Frame::Agree { lines, .. } => {
+            let mut tree = ancestor.tree().copy(alloc)?;
+            match take_lines(alloc, &mut tree, lines.as_slice()) {
+                Ok(()) => Ok(true),
+                Err(_) => Ok(false),
+            }
+        }
+        Frame::Reset(_) => Ok(true),
+        Frame::Table(_) => Ok(false),
+    }
+}
+
+// What the ancestor holds, as a row has it.
+fn shown(alloc: Global, ancestor: &Ancestor) -> Result<String, AllocError> {
+    let mut text = String::new(alloc);
+    for (path, atom) in ancestor.tree().iter() {
+        write_path(&mut text, path)?;
+        text.push(' ')?;
+        write_atom(&mut text, atom)?;
+        text.push('|')?;
+    }
+    Ok(text)
+}
+
+// Whether a commit went through.
+fn committed(
+    alloc: Global,
+    keeper: &mut MemKeeper,
+    ancestor: &mut Ancestor,
+    frame: &Frame,
+) -> Result<bool, AllocError> {
+    if !takes(alloc, ancestor, frame)? {
+        return Ok(false);
+    }
+    Ok(ancestor.commit(alloc, keeper, frame).is_ok())
+}
+
+// Commits a frame to a keeper that fails at its first append, and once more.
+fn commit_twice(alloc: Global, frames: &str, text: &str, wanted: &str) -> Result<bool, AllocError> {
+    let mut keeper = MemKeeper::of(alloc, kept_of(alloc, frames)?, &[0])?;
+    let Ok(mut ancestor) = Ancestor::open_from(alloc, &keeper, 5) else {
+        return Ok(false);
+    };
+    let Some(frame) = frame_of(alloc, text)? else {
+        return Ok(false);
+    };
+    let before = shown(alloc, &ancestor)?;
+    let failed = committed(alloc, &mut keeper, &mut ancestor, &frame)?;
+    let between = shown(alloc, &ancestor)?;
+    let went = committed(alloc, &mut keeper, &mut ancestor, &frame)?;
+    let behind = shown(alloc, &ancestor)?;
+    Ok(!failed && went && before.as_str() == between.as_str() && behind.as_str() == wanted)
+}
+
+#[test]
+fn a_commit_takes_up_its_frame_or_nothing(rt: HostRuntime) -> Result<(), Fail> {
+    let alloc = rt.alloc();
+    for row in COMMITS.lines() {
+        let (kept, behind) = row.split_once('>').unwrap_or((row, ""));
+        let (frame, wanted) = behind.split_once('>').unwrap_or((behind, ""));
+        let (_, frames) = kept.split_once('#').unwrap_or((kept, ""));
+        assert!(rt; commit_twice(alloc, frames, frame, wanted)?);
     }
     Ok(())
 }

@@ -1,6 +1,6 @@
 use Rattle.std.proofs.Common.{◌≡◌, length}
 use Rattle.mode_rules.specs.AncestorFold.{with_lines}
-use Rattle.ancestor_store.proofs.ancestor.take_lines.Given as goal
+use Rattle.ancestor_store.proofs.fold.take_lines.Given as goal
 
 abbrev pub invariant-loop-rest : goal.invariant-loop-rest
 invariant-loop-rest l = with_lines l.fn.tree l.fn.lines ≡ with_lines l.tree l.rest
