@@ -1,0 +1,10 @@
+pub mod Classes
+pub mod Cutting
+pub mod Endpoints
+pub mod Identifiers
+pub mod KeywordWords
+pub mod LabelOrder
+pub mod LabelWords
+pub mod Numbers
+pub mod Sessions
+pub mod Values

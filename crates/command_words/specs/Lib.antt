@@ -1,0 +1,14 @@
+pub mod Ascii
+pub mod Contents
+pub mod Cuts
+pub mod Endpoint
+pub mod GivenName
+pub mod Identifier
+pub mod Keywords
+pub mod Kept
+pub mod Label
+pub mod LabelText
+pub mod Labels
+pub mod Piece
+pub mod RootName
+pub mod Session
