@@ -1,6 +1,7 @@
 mod Boards
 mod Bounding
 mod Fetching
+mod Contents
 mod Counting
 mod Fetches
 mod Firsts

@@ -1,5 +1,6 @@
 pub mod Bounds
 pub mod Caches
+pub mod Contents
 pub mod Look
 pub mod Meeting
 pub mod ScanLists

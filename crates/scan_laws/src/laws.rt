@@ -1,6 +1,7 @@
 //! The laws. Each is the contract of a function that does nothing.
 ghost use Rattle.scan_laws.specs.Bounds.{ListsAreBounded, RowsAreCounted, AsksListsAndFetches, FetchesAreBounded};
 ghost use Rattle.scan_laws.specs.Caches.{FilesAreKnown, LinesStay};
+ghost use Rattle.scan_laws.specs.Contents.{FilesAreContents, LinesStayContents};
 ghost use Rattle.scan_laws.specs.Meeting.{AsksWhatPointsSay, SeesWhatPointsSay, WholeSeesSeenTree, AsksAScansList, WholeHasNoNext, WholeIsWholeScan};
 ghost use Rattle.scan_laws.specs.Standing.{SeenIsClosed, StampsAreOfFiles};
 ghost use Rattle.scan_laws.specs.Undisturbed.{EndsByRowsAlone, UndisturbedSeesLook, WholeListsLookRows};
@@ -41,6 +42,13 @@ pub fn seen_trees()
 pub fn one_cache()
     ensures files { FilesAreKnown }
     ensures lines { LinesStay }
+{}
+
+/// Where the lines of the cache and all pieces that were handed in are of the contents that a ledger has for their stamps, each file
+/// that was seen has the digest of its stamp's content, and each line of the cache then too, whatever changed in between.
+pub fn contents_of_scans()
+    ensures files { FilesAreContents }
+    ensures lines { LinesStayContents }
 {}
 
 /// Where all takes were given the same rules and one cache, which nothing else changed between them, a scan asks and sees what the
