@@ -1,0 +1,6 @@
+pub mod Numbers
+pub mod Codecs
+pub mod FieldLaws
+pub mod MessageLaws
+pub mod Listing
+pub mod Texts
