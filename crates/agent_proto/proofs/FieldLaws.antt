@@ -1,5 +1,5 @@
 -- The law of each kind of field.
-use Rattle.std.proofs.Common.{◌≡◌, ℕ, zero, suc, ◌+◌, ◌<◌, ◌≤◌, ◌^◌, List, [], ◌∷◌, ◌++◌, length, Bool, true, false, ◌&&◌, not, eqb, refl, sym, ap, subst, ◌∙◌, arith, append_assoc, Some, None, leb}
+use Rattle.std.proofs.Common.{◌≡◌, ℕ, zero, suc, ◌<◌, ◌≤◌, ◌^◌, List, [], ◌∷◌, ◌++◌, length, Bool, true, false, ◌&&◌, not, eqb, refl, sym, ap, subst, ◌∙◌, arith, append_assoc, Some, None, leb}
 use Rattle.std.specs.Prelude.{Option, cond, nat_le, IsTrue, ⊤}
 use Rattle.std.specs.List.{list_all, flat_map, AllByRecursion}
 use Rattle.std.specs.Option.{option_map, option_and_then}
@@ -12,19 +12,17 @@ use Rattle.sync_path.specs.PathText.{parts_of}
 use Rattle.sync_path.specs.declared.limits.TheConstants.{MAX_DEPTH, MAX_PATH_LEN, MAX_NAME_LEN}
 use Rattle.sync_path.proofs.Texts.{path_text-parts_of, parts_of-path_text}
 use Rattle.entry_tree.specs.Text.{is_text, has_text_len, IsText}
-use Rattle.entry_tree.specs.Entry.{is_tracked}
 use Rattle.entry_tree.specs.declared.text.TheConstants.{MAX_TEXT_LEN}
 use Rattle.entry_tree.specs.declared.entry.Entry.{Entry}
 use Rattle.entry_tree.specs.declared.entry.Entry.TheVariants.{Dir, File, Link, Other}
 use Rattle.entry_tree.specs.declared.entry.Stamp.{Stamp}
-use Rattle.roots_api.specs.Expected.{is_file}
 use Rattle.roots_api.specs.declared.limits.TheConstants.{MAX_PIECE}
 use Rattle.roots_api.specs.declared.who.Who.{Who}
 use Rattle.roots_api.specs.declared.who.Who.TheVariants.{Editor, Session}
 use Rattle.agent_proto.specs.Fields.{number_field, bit_field, text_field, path_field, bytes_field, stamp_field, found_field, done_field, row_field, rows_field}
 use Rattle.agent_proto.specs.Messages.{who_field, IsStamp, IsStampIfAny, IsEntry, IsFound, IsRow, IsAsking, may_be_replaced}
-use Rattle.agent_proto.specs.Reading.{mapped, made, both, byte_in, front_in, number_in, sized_in, bit_of, bit_in, stamp_of, stamp_in, is_path, path_by, path_in, name_by, name_in, text_by, text_in, found_by, found_in, entry_by, replaced_by, entry_in, replaced_in, tracked_in, file_in, done_by, done_in, rows_by, rows_in, piece_by, piece_in, who_in}
-use Rattle.agent_proto.proofs.Codecs.{Codec, some_is, and_then_some, map_some, cond_some, bytes_back, mapped_back, made_back, both_law, made_law, both_is, both_parts, along, front_law, number_law, sized_law, FitsIn, FewFor, IsSized}
+use Rattle.agent_proto.specs.Reading.{mapped, made, both, number_in, sized_in, bit_of, bit_in, stamp_of, stamp_in, is_path, path_by, path_in, name_in, text_in, found_by, found_in, entry_by, replaced_by, entry_in, replaced_in, done_by, done_in, rows_by, rows_in, piece_by, piece_in, who_in}
+use Rattle.agent_proto.proofs.Codecs.{Codec, some_is, and_then_some, cond_some, bytes_back, mapped_back, both_law, made_law, both_is, both_parts, along, number_law, sized_law, FitsIn, FewFor}
 
 abbrev pub IsAny : {V : Type 0} → V → Type 0
 IsAny v = ⊤

@@ -1,8 +1,7 @@
 -- Each message has one spelling, and what is read is what was written.
-use Rattle.std.proofs.Common.{◌≡◌, ℕ, zero, suc, ◌+◌, ◌<◌, ◌≤◌, ◌^◌, List, [], ◌∷◌, ◌++◌, length, drop, Bool, true, false, eqb, refl, sym, ap, subst, ◌∙◌, arith, append_assoc, Some, None}
-use Rattle.std.specs.Prelude.{Option, cond, IsTrue, ⊤, ◌==◌}
+use Rattle.std.proofs.Common.{◌≡◌, ℕ, ◌<◌, ◌≤◌, List, [], ◌∷◌, ◌++◌, length, drop, Bool, true, false, refl, sym, ap, subst, ◌∙◌, arith, append_assoc, Some, None}
+use Rattle.std.specs.Prelude.{Option, cond, ⊤, ◌==◌}
 use Rattle.std.specs.List.{AllByRecursion}
-use Rattle.std.specs.Option.{option_map, option_and_then}
 use Rattle.std.proofs.lemmas.Bool.{eqb-true}
 use Rattle.std.proofs.lemmas.List.{append-nil, nil_from_length, drop_at}
 use Rattle.mux_frames.specs.Numbers.{AreBytes}
@@ -10,17 +9,16 @@ use Rattle.sync_path.specs.Path.{IsPath}
 use Rattle.entry_tree.specs.Digest.{IsDigest}
 use Rattle.entry_tree.specs.Text.{IsText}
 use Rattle.entry_tree.specs.Entry.{is_tracked}
-use Rattle.entry_tree.specs.declared.entry.Entry.{Entry}
 use Rattle.roots_api.specs.Expected.{is_file}
 use Rattle.roots_api.specs.declared.answer.Answer.{Answer}
 use Rattle.roots_api.specs.declared.answer.Answer.TheVariants as answers
 use Rattle.roots_api.specs.declared.op.Op.{Op}
 use Rattle.roots_api.specs.declared.op.Op.TheVariants as ops
 use Rattle.agent_proto.specs.Bodies.{ReadsBody}
-use Rattle.agent_proto.specs.Fields.{number_field, bit_field, text_field, path_field, bytes_field, stamp_field, found_field, done_field, rows_field}
+use Rattle.agent_proto.specs.Fields.{number_field, bit_field, text_field, path_field, bytes_field, stamp_field, found_field}
 use Rattle.agent_proto.specs.Kinds.{kind_by, request_table, request_of, request_code, reply_table, reply_of, reply_code}
-use Rattle.agent_proto.specs.Messages.{who_field, op_kind, op_fields, answer_kind, answer_fields, body, spelling, IsStamp, IsFound, IsAsking, IsOp, IsAnswer, HasFields, IsMessage}
-use Rattle.agent_proto.specs.Reading.{mapped, both, byte_in, front_in, number_in, sized_in, bit_in, stamp_in, path_in, text_in, found_in, replaced_in, tracked_in, file_in, done_in, rows_in, piece_in, who_in, op_in, answer_in, ask_in, other_in, fields_in, message_in, whole}
+use Rattle.agent_proto.specs.Messages.{who_field, op_kind, op_fields, answer_kind, answer_fields, body, spelling, IsStamp, IsOp, IsAnswer, HasFields, IsMessage}
+use Rattle.agent_proto.specs.Reading.{mapped, both, front_in, number_in, sized_in, bit_in, stamp_in, path_in, text_in, found_in, replaced_in, tracked_in, file_in, done_in, rows_in, piece_in, who_in, op_in, answer_in, ask_in, other_in, fields_in, message_in, whole}
 use Rattle.agent_proto.specs.declared.kind.Reply.{Reply}
 use Rattle.agent_proto.specs.declared.kind.Reply.TheVariants as replies
 use Rattle.agent_proto.specs.declared.kind.Request.{Request}
@@ -28,9 +26,9 @@ use Rattle.agent_proto.specs.declared.kind.Request.TheVariants as requests
 use Rattle.agent_proto.specs.declared.limits.TheConstants.{MAX_MESSAGE}
 use Rattle.agent_proto.specs.declared.message.Message.{Message}
 use Rattle.agent_proto.specs.declared.message.Message.TheVariants as messages
-use Rattle.agent_proto.proofs.Codecs.{Codec, some_is, and_then_some, map_some, cond_some, bytes_back, mapped_back, both_law, both_is, both_parts, front_law, number_law, FitsIn, IsSized}
+use Rattle.agent_proto.proofs.Codecs.{Codec, some_is, and_then_some, cond_some, bytes_back, mapped_back, both_law, both_is, both_parts, front_law, number_law, FitsIn}
 use Rattle.agent_proto.proofs.Numbers.{length_of}
-use Rattle.agent_proto.proofs.FieldLaws.{IsAny, bit_law, stamp_law, path_law, text_law, found_law, Passes, entry_law, IsExpected, replaced_law, done_law, AreListed, rows_law, IsFew, bytes_law, IsShort, piece_law, session_law}
+use Rattle.agent_proto.proofs.FieldLaws.{IsAny, bit_law, stamp_law, path_law, text_law, found_law, Passes, entry_law, IsExpected, replaced_law, done_law, rows_law, bytes_law, IsShort, piece_law, session_law}
 
 -- ---- kinds
 

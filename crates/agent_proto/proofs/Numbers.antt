@@ -1,10 +1,9 @@
 -- A number's bytes, high byte first, and back.
-use Rattle.std.proofs.Common.{◌≡◌, ℕ, zero, suc, ◌+◌, ◌-◌, ◌*◌, ◌/◌, ◌%◌, ◌^◌, ◌<◌, ◌≤◌, List, [], ◌∷◌, ◌++◌, length, get_or, take, refl, sym, ap, ap₂, subst, ◌∙◌, arith, add-one}
+use Rattle.std.proofs.Common.{◌≡◌, ℕ, zero, suc, ◌+◌, ◌*◌, ◌/◌, ◌%◌, ◌^◌, ◌<◌, ◌≤◌, List, [], ◌∷◌, ◌++◌, length, get_or, take, refl, sym, ap, ap₂, subst, ◌∙◌, arith, add-one}
 use Rattle.std.specs.Int.{bytes_high_first, byte_at}
 use Rattle.std.proofs.Math.Nat.{pow-succ', mul-le-mul_right, div-lt_iff_lt-mul, le-div_iff_mul-le, mod-lt, mod-eq_of_lt, pow-le-pow_right}
 use Rattle.std.proofs.Math.Seq.{take-suc}
 use Rattle.std.proofs.lemmas.Nat.{div-add-mod', mod-mul-add}
-use Rattle.std.proofs.lemmas.List.{length-take-le}
 use Rattle.mux_frames.specs.Numbers.{value_from, value, AreBytes}
 use Rattle.mux_frames.proofs.Digits.{value_from-append, value_from-least, value_from-most}
 use Rattle.agent_proto.specs.Fields.{number_field}

@@ -1,14 +1,14 @@
 -- Texts that are no UTF-8 are no path.
-use Rattle.std.proofs.Common.{◌≡◌, ℕ, zero, suc, ◌<◌, arith, List, [], ◌∷◌, ◌++◌, true, false, ◌&&◌, sym, ap, subst, ◌∙◌, Some, None, Bool, refl}
-use Rattle.std.specs.Prelude.{cond, IsUtf8, IsTrue, slice_index}
-use Rattle.std.specs.List.{list_all, join_with_byte}
+use Rattle.std.proofs.Common.{◌≡◌, ℕ, zero, suc, ◌<◌, arith, List, [], ◌∷◌, true, false, sym, ap, subst, ◌∙◌, Some, None, Bool, refl}
+use Rattle.std.specs.Prelude.{cond, IsUtf8, slice_index}
+use Rattle.std.specs.List.{list_all}
 use Rattle.std.specs.Str.{is_utf8}
 use Rattle.std.proofs.lemmas.Bool.{and_parts}
 use Rattle.std.proofs.lemmas.Str.{IsUtf8-append, IsUtf8-nil, IsUtf8-from_is_utf8, IsUtf8-from_ascii}
 use Rattle.sync_path.specs.Name.{is_name, has_name_form}
 use Rattle.sync_path.specs.Path.{IsPath, path_text}
 use Rattle.sync_path.specs.PathText.{parts_of, IsBadPlace}
-use Rattle.sync_path.proofs.Texts.{path_text-parts_of, parts_of-path_text, path_has_no_bad}
+use Rattle.sync_path.proofs.Texts.{path_text-parts_of, path_has_no_bad}
 use Rattle.entry_tree.specs.Text.{is_text, has_text_len}
 use Rattle.agent_proto.specs.Reading.{is_path, path_by, name_by, text_by}
 use Rattle.agent_proto.proofs.FieldLaws.{true_path, path_by-text}

@@ -1,5 +1,5 @@
 -- What stands at the front of some bytes: a field's value and the bytes behind it, or none where no such field stands there.
-use Rattle.std.specs.Prelude.{◌≡◌, ℕ, zero, suc, Bool, true, false, cond, ◌&&◌, ◌==◌, List, [], ◌∷◌, length, take, drop, nat_le, nat_lt, Option, Some, None, is_some}
+use Rattle.std.specs.Prelude.{◌≡◌, ℕ, zero, suc, Bool, true, false, cond, ◌&&◌, ◌==◌, List, [], ◌∷◌, length, take, drop, nat_le, Option, Some, None}
 use Rattle.std.specs.List.{list_all}
 use Rattle.std.specs.Option.{option_map, option_and_then}
 use Rattle.mux_frames.specs.Numbers.{value}
@@ -13,7 +13,6 @@ use Rattle.entry_tree.specs.declared.entry.Entry.{Entry}
 use Rattle.entry_tree.specs.declared.entry.Entry.TheVariants.{Dir, File, Link, Other}
 use Rattle.entry_tree.specs.declared.entry.Stamp.{Stamp}
 use Rattle.roots_api.specs.Expected.{is_file}
-use Rattle.roots_api.specs.declared.answer.Answer.{Answer}
 use Rattle.roots_api.specs.declared.answer.Answer.TheVariants as answers
 use Rattle.roots_api.specs.declared.limits.TheConstants.{MAX_PIECE}
 use Rattle.roots_api.specs.declared.op.Op.{Op}

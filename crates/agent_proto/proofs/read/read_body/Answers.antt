@@ -4,7 +4,7 @@ use Rattle.agent_proto.specs.Bodies.{ReadsBody}
 use Rattle.agent_proto.specs.Reading.{message_in, whole}
 use Rattle.agent_proto.specs.declared.limits.TheConstants.{MAX_MESSAGE}
 use Rattle.agent_proto.proofs.Codecs.{AreBytes-from}
-use Rattle.agent_proto.proofs.MessageLaws.{reads_body, too_long_for_any}
+use Rattle.agent_proto.proofs.MessageLaws.{reads_body}
 use Rattle.agent_proto.proofs.read.read_body.Goals as goal
 
 pub returns : goal.returns

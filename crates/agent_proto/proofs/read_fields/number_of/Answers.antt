@@ -1,5 +1,5 @@
-use Rattle.std.proofs.Common.{◌≡◌, ℕ, ◌+◌, ◌*◌, ◌<◌, ◌^◌, length, get_or, arith}
-use Rattle.agent_proto.proofs.Numbers.{Reads, reads_on, reads_fits}
+use Rattle.std.proofs.Common.{◌+◌, ◌*◌, ◌<◌, ◌^◌, get_or, arith}
+use Rattle.agent_proto.proofs.Numbers.{reads_on, reads_fits}
 use Rattle.agent_proto.proofs.read_fields.number_of.Goals as goal
 
 pub overflow_mul-number : goal.overflow_mul-number

@@ -1,4 +1,4 @@
-use Rattle.std.proofs.Common.{◌≡◌, ◌<◌, ◌+◌, ℕ, arith}
+use Rattle.std.proofs.Common.{◌≡◌, arith}
 use Rattle.agent_proto.proofs.Listing.{row_on, row_no_name, row_no_entry, rows_end, rows_begin}
 use Rattle.agent_proto.proofs.read_fields.Fields.rows_by.Goals as goal
 
