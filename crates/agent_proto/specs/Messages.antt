@@ -1,5 +1,5 @@
 -- The messages: the table of kinds and fields, and what a message's fields may be.
-use Rattle.std.specs.Prelude.{◌≡◌, ℕ, ◌^◌, ◌<◌, ◌≤◌, Bool, true, List, [], ◌∷◌, ◌++◌, length, Option, Some, None, IsTrue, ⊤}
+use Rattle.std.specs.Prelude.{ℕ, ◌^◌, ◌<◌, ◌≤◌, Bool, true, List, [], ◌∷◌, ◌++◌, length, Option, Some, None, IsTrue, ⊤}
 use Rattle.std.specs.List.{AllByRecursion}
 use Rattle.sync_path.specs.Path.{IsPath}
 use Rattle.sync_path.specs.Name.{IsName}
@@ -171,17 +171,14 @@ IsAnswer (answers.Differs found) = IsFound found
 IsAnswer (answers.Full room) = (room.log < 2 ^ 64) × (room.bytes < 2 ^ 64)
 IsAnswer answer = ⊤
 
--- a message whose fields may be so, and that isn't too long
+-- a message whose fields may be so
 abbrev pub HasFields : Message → Type 0
 HasFields (Ask who op) = IsAsking who × IsOp op
 HasFields (Told answer) = IsAnswer answer
 HasFields NoMemory = ⊤
 HasFields (TooLong length) = length < 2 ^ 64
 
+-- and that isn't too long either
 pub record IsMessage (message : Message) : Type 0 where
   pub fields : HasFields message
   pub fits : length (body message) ≤ MAX_MESSAGE
-
--- these bytes are a message
-abbrev pub IsSpelling : List ℕ → Type 0
-IsSpelling bytes = (message : Message) × IsMessage message × (bytes ≡ spelling message)

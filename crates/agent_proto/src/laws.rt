@@ -10,7 +10,8 @@ pub fn one_spelling()
     ensures messages { (a b : Message) → HasFields a → HasFields b → spelling a ≡ spelling b → a ≡ b }
 {}
 
-/// Reading what stands behind the length of a message's bytes gives the message.
+/// Reading what stands behind the length of a message's bytes gives the message. What `write_ask` and `write_answer` wrote is one, by
+/// their clause `message`.
 pub fn written_is_read()
     ensures { (message : Message) (found : Option Message)
         → IsMessage message → ReadsBody (body message) found → found ≡ Some message }

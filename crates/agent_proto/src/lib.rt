@@ -18,6 +18,7 @@
 //! The test `a_request_is_written_and_read` makes these calls.
 #![tactic(auto)]
 
+mod kept;
 mod kind;
 pub mod laws;
 mod limits;

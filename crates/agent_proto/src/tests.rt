@@ -2,7 +2,7 @@
 
 use super::*;
 use bytes::Bytes;
-use roots_api::{Op, Who};
+use roots_api::{Content, Op, Who};
 use std::alloc::Global;
 use std::test::*;
 
@@ -141,5 +141,27 @@ fn a_request_is_written_and_read(rt: HostRuntime) -> Result<(), Fail> {
     let (_, body) = bytes.as_slice().split_at_checked(4).ok_or("a length")?;
     let message = read_body(rt.alloc(), body)?;
     assert!(rt; matches!(message, Some(Message::Ask(_, Op::StageClear))));
+    Ok(())
+}
+
+/// How long the message would be that stages so many bytes.
+fn staging(alloc: Global, size: usize) -> Result<Option<u64>, Fail> {
+    let bytes = Content::from_vec(vec![in alloc; 7u8; size]?);
+    let who = Who::Session {
+        id: 7,
+        run: 1,
+        cycle: 2,
+    };
+    match write_ask(alloc, &who, &Op::StageAppend { bytes }) {
+        Ok(message) => Ok(Some(message.len() as u64)),
+        Err(WriteFault::TooLong(size)) => Ok(Some(size)),
+        Err(WriteFault::Memory) => Ok(None),
+    }
+}
+
+#[test]
+fn the_longest_message_and_one_byte_more(rt: HostRuntime) -> Result<(), Fail> {
+    assert_eq!(rt; staging(rt.alloc(), 67_108_831)?, Some(67_108_868));
+    assert_eq!(rt; staging(rt.alloc(), 67_108_832)?, Some(67_108_865));
     Ok(())
 }

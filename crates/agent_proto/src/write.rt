@@ -2,9 +2,10 @@
 ghost use Rattle.std.specs.Prelude.{◌≡◌, ℕ, ◌<◌, ◌≤◌, ◌++◌, [], ◌∷◌, length, drop, Err, IfOk, OnOk};
 ghost use Rattle.roots_api.specs.Told.{IsSession};
 ghost use Rattle.agent_proto.specs.Fields.{number_field, found_field};
-ghost use Rattle.agent_proto.specs.Messages.{who_field, op_kind, op_fields, answer_kind, answer_fields, body, spelling};
+ghost use Rattle.agent_proto.specs.Messages.{who_field, op_kind, op_fields, answer_kind, answer_fields, body, spelling, IsMessage, IsTellable};
 ghost use Rattle.agent_proto.specs.declared.message.Message.TheVariants as messages;
 
+use crate::kept::{kept_answer, kept_op, kept_who};
 use crate::limits::MAX_MESSAGE;
 use crate::wire::{
     KIND_CHANGED, KIND_CLEARED, KIND_DIFFERS, KIND_DIGEST_DIFFERS, KIND_DONE, KIND_FAILED,
@@ -45,7 +46,7 @@ impl From<AllocError> for WriteFault {
     }
 }
 
-/// The one spelling of a session's request.
+/// The one spelling of a session's request, which is a message.
 ///
 /// Cost: the length of what is written; the bytes to be staged are copied once. A request that is too long is spelt out before it
 /// is refused.
@@ -55,14 +56,18 @@ pub fn write_ask(alloc: Global, who: &Who, op: &Op) -> Result<Bytes, WriteFault>
     ensures fits { IfOk result (λ bytes. length (body (messages.Ask who.now op.now)) ≤ MAX_MESSAGE) }
     ensures too_long { (size : ℕ) → result ≡ Err (WriteFault.TooLong size)
         → (size ≡ length (body (messages.Ask who.now op.now))) × (MAX_MESSAGE < size) }
+    ensures message { IfOk result (λ bytes. IsMessage (messages.Ask who.now op.now)) }
 {
     let mut out = begin(alloc, op_kind(op), op.appended_len())?;
     push_who(&mut out, who)?;
     push_op(alloc, &mut out, op)?;
-    finish(out)
+    let bytes = finish(out)?;
+    kept_who(who);
+    kept_op(op);
+    Ok(bytes)
 }
 
-/// The one spelling of an answer. Of a piece with more than 65,536 bytes, which no root answers, it spells no message.
+/// The one spelling of an answer, which is a message unless it is a piece with more than 65,536 bytes. No root answers such a piece.
 ///
 /// Cost: the length of what is written; a piece's bytes are copied once. An answer that is too long is spelt out before it is refused.
 pub fn write_answer(alloc: Global, answer: &Answer) -> Result<Bytes, WriteFault>
@@ -70,10 +75,13 @@ pub fn write_answer(alloc: Global, answer: &Answer) -> Result<Bytes, WriteFault>
     ensures fits { IfOk result (λ bytes. length (body (messages.Answer answer.now)) ≤ MAX_MESSAGE) }
     ensures too_long { (size : ℕ) → result ≡ Err (WriteFault.TooLong size)
         → (size ≡ length (body (messages.Answer answer.now))) × (MAX_MESSAGE < size) }
+    ensures message { IfOk result (λ bytes. IsTellable answer.now → IsMessage (messages.Answer answer.now)) }
 {
     let mut out = begin(alloc, answer_kind(answer), piece_len(answer))?;
     push_answer(&mut out, answer)?;
-    finish(out)
+    let bytes = finish(out)?;
+    kept_answer(answer);
+    Ok(bytes)
 }
 
 /// The message that there was no memory.
