@@ -1,0 +1,39 @@
+//! The messages by which a root behind a connection is asked and answers: one spelling for each, read exactly.
+//!
+//! A message is a length, four bytes high first and at most 67,108,864, and so many bytes behind it: a kind (`wire`) and fields.
+//! A request's kind is followed by its session's identifier (16 bytes), run (4) and cycle (8). `specs/Messages.antt` has the table
+//! of kinds and fields, and what the fields may be; `specs/Fields.antt` has the bytes of each field.
+//!
+//! [`write_ask`] and [`write_answer`] give a message's one spelling, [`write_no_memory`] and [`write_too_long`] what is told in place
+//! of an answer. [`read_body`] reads what stands behind a length, once all of it is there. A reader of a connection that comes in
+//! pieces isn't part of this crate yet.
+//!
+//! ```rust
+//! let who = Who::Session { id: 7, run: 1, cycle: 2 };
+//! let bytes = write_ask(alloc, &who, &Op::StageClear)?; // 33 bytes
+//! let (_, body) = bytes.as_slice().split_at_checked(4).ok_or("a length")?;
+//! let message = read_body(alloc, body)?; // Some(Message::Ask(who, Op::StageClear))
+//! ```
+//!
+//! The test `a_request_is_written_and_read` makes these calls.
+#![tactic(auto)]
+
+mod kept;
+mod kind;
+pub mod laws;
+mod limits;
+mod message;
+mod read;
+mod read_fields;
+mod read_reply;
+mod wire;
+mod write;
+mod write_fields;
+
+pub use limits::MAX_MESSAGE;
+pub use message::Message;
+pub use read::read_body;
+pub use write::{WriteFault, write_answer, write_ask, write_no_memory, write_too_long};
+
+#[cfg(test)]
+mod tests;
