@@ -4,9 +4,11 @@ use Rattle.std.specs.Prelude.{nat_lt}
 use Rattle.std.specs.Option.{option_and_then}
 use Rattle.std.proofs.lemmas.Bool.{ltb-true}
 use borrow.Author.Tests.{ltb-false}
+use Rattle.std.proofs.lemmas.List.{append-nil}
 use Rattle.finite_maps.proofs.Constructors.{cons_parts, none_is_not_some}
 use Rattle.frame_text.specs.Folds.{AllSpell, Folded, FoldsTo, IsBadFrame, first_payload, fold_of, folded_from, unfolded, with_payload}
 use Rattle.frame_text.specs.declared.payload.Payload.{Payload}
+use Rattle.frame_text.proofs.Folding.{no_frames}
 
 -- ---- the first of some frames have a fold where all have one
 
@@ -77,3 +79,24 @@ one_bad frames number other b d = by (nat_lt number other) (nat_lt other number)
     by true y p q = absurd (not_before frames number other b d (ltb-true number other p))
     by false true p q = absurd (not_before frames other number d b (ltb-true other number q))
     by false false p q = omega (arith, ltb-false number other p, ltb-false other number q)
+
+-- ---- and not none of both
+
+none_left : (left before : List (List ℕ)) (folded : Folded) → FoldsTo before folded → ((after : Folded) → FoldsTo (before ++ left) after → ⊥) → ((number : ℕ) → IsBadFrame (before ++ left) number → ⊥) → ⊥
+none_left [] before folded h none good = none folded (subst (λ fs. FoldsTo fs folded) (sym (append-nil before)) h)
+none_left (bytes ∷ left) before folded h none good =
+    good (length before)
+    (record {
+      before = before;
+      bytes = bytes;
+      behind = left;
+      all = refl;
+      number_is = refl;
+      folds = (folded, h);
+      bad = λ after k.
+          none_left left (before ++ bytes ∷ []) after k (λ last m. none last (subst (λ fs. FoldsTo fs last) (append_assoc before (bytes ∷ []) left) m))
+          (λ number m. good number (subst (λ fs. IsBadFrame fs number) (append_assoc before (bytes ∷ []) left) m));
+    })
+
+pub not_neither : (frames : List (List ℕ)) → ((folded : Folded) → FoldsTo frames folded → ⊥) → ((number : ℕ) → IsBadFrame frames number → ⊥) → ⊥
+not_neither frames none good = none_left frames [] unfolded no_frames none good

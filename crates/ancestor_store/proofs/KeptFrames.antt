@@ -24,14 +24,14 @@ frames_behind key (x ∷ kept) k = by (same_key x.key key) (frames_behind key ke
 number_itself : (n : ℕ) → (n == n) ≡ true
 number_itself n = grind (arith, nat_tests)
 
-same_itself : (key : KeepKey) → same_key key key ≡ true
+pub same_itself : (key : KeepKey) → same_key key key ≡ true
 same_itself Table = refl
 same_itself (Session id) = number_itself id
 
 number_is : (m n : ℕ) → (m == n) ≡ true → m ≡ n
 number_is m n h = grind (arith, nat_tests)
 
-same_is : (key other : KeepKey) → same_key key other ≡ true → other ≡ key
+pub same_is : (key other : KeepKey) → same_key key other ≡ true → other ≡ key
 same_is Table Table h = refl
 same_is Table (Session id) h = absurd (cc)
 same_is (Session id) Table h = absurd (cc)

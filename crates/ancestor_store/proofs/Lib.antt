@@ -1,9 +1,12 @@
 pub mod BadFrames
 pub mod Committed
+pub mod Counted
 pub mod KeptFrames
+pub mod MemCompacted
 pub mod Opened
 pub mod Outcomes
 pub mod Settled
 pub mod TreeEntries
 pub mod Uptaking
 pub mod Values
+pub mod Wholes

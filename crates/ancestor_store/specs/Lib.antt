@@ -1,7 +1,10 @@
 pub mod Codes
 pub mod Committing
+pub mod Compacting
+pub mod Counting
 pub mod Keeping
 pub mod MemCodes
+pub mod MemCompacting
 pub mod MemKept
 pub mod Opening
 pub mod Settling

@@ -18,4 +18,14 @@ impl<A: Archive> Archive for &mut A {
     fn frames(&self, alloc: Global, key: KeepKey) -> Result<Vec<Vec<u8>>, AllocError> {
         (**self).frames(alloc, key)
     }
+
+    ghost compacts = { λ a. A.compacts a.now };
+
+    fn kept(&self) -> u64 {
+        (**self).kept()
+    }
+
+    fn compact(&mut self, alloc: Global) -> Result<(), KeepError> {
+        (**self).compact(alloc)
+    }
 }

@@ -15,16 +15,19 @@
 
 mod ancestor;
 mod committing;
+mod compacting;
 mod fold;
 mod keeper;
 pub mod laws;
 mod lent;
+mod mem_compacting;
 mod mem_keeper;
 mod opening;
 mod outcome;
 mod uptake;
 
 pub use ancestor::{Ancestor, OpenError};
+pub use compacting::{OPENED, run_of};
 pub use keeper::{Archive, KeepError, Keeper};
 pub use mem_keeper::{Kept, MemKeeper};
 

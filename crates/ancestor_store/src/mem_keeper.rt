@@ -1,13 +1,17 @@
 //! A keeper in memory.
-ghost use Rattle.std.specs.Prelude.{◌≡◌, ◌≢◌, ◌↔◌, ◌≤◌, [], Some, Err, IfOk, OnOk, OnErr, IsTrue};
+ghost use Rattle.std.specs.Prelude.{◌≡◌, ◌≢◌, ◌↔◌, ◌≤◌, ℕ, true, [], Some, Err, IfOk, OnOk, OnErr, IsTrue};
 ghost use Rattle.fault_count.specs.Rose.{Rose};
 ghost use Rattle.finite_maps.specs.Told.{WhereTold};
 ghost use Rattle.frame_text.specs.declared.frame.KeepKey.{KeepKey};
+ghost use Rattle.frame_text.specs.declared.frame.KeepKey.TheVariants.{Session, Table};
+ghost use Rattle.ancestor_store.specs.Compacting.{Compacts, run_of};
 ghost use Rattle.ancestor_store.specs.Keeping.{Appends, bytes_of};
+ghost use Rattle.ancestor_store.specs.MemCompacting.{sessions_in, sessions_of};
 ghost use Rattle.ancestor_store.specs.MemKept.{after_call, frames_of, is_to_fail, same_key, with_kept};
 ghost use Rattle.ancestor_store.specs.declared.keeper.KeepError.TheVariants.{Fault};
 
 use crate::keeper::{Archive, KeepError, Keeper};
+use crate::mem_compacting::compacted_kept;
 use fault_count::count_fault;
 use frame_text::{Frame, KeepKey};
 use sqlite_items::Items;
@@ -92,7 +96,7 @@ impl MemKeeper {
 }
 
 // Whether two keys are the same.
-fn same_key(key: KeepKey, other: KeepKey) -> bool
+pub(crate) fn same_key(key: KeepKey, other: KeepKey) -> bool
     ensures { result ≡ same_key key other }
 {
     match (key, other) {
@@ -104,7 +108,11 @@ fn same_key(key: KeepKey, other: KeepKey) -> bool
 }
 
 // Copies of the bytes of a key's frames.
-fn frames_of(alloc: Global, key: KeepKey, kept: &[Kept]) -> Result<Vec<Vec<u8>>, AllocError>
+pub(crate) fn frames_of(
+    alloc: Global,
+    key: KeepKey,
+    kept: &[Kept],
+) -> Result<Vec<Vec<u8>>, AllocError>
     ensures { IfOk result (λ frames. bytes_of frames.items ≡ frames_of key kept.now) }
 {
     let mut frames = Vec::new(alloc);
@@ -116,6 +124,30 @@ fn frames_of(alloc: Global, key: KeepKey, kept: &[Kept]) -> Result<Vec<Vec<u8>>,
         rest = behind;
     }
     Ok(frames)
+}
+
+// How many frames of sessions a frame of this key is.
+fn sessions_in(key: KeepKey) -> u64
+    ensures value { result ≡ sessions_in key }
+    ensures bound { result ≤ 1 }
+{
+    match key {
+        KeepKey::Table => 0,
+        KeepKey::Session(_) => 1,
+    }
+}
+
+// How many frames of sessions there are.
+fn sessions_of(kept: &[Kept]) -> u64
+    ensures { result ≡ sessions_of kept.now }
+{
+    let mut number: u64 = 0;
+    let mut rest = kept;
+    while let Some((one, behind)) = rest.split_first() {
+        number += sessions_in(one.key);
+        rest = behind;
+    }
+    number
 }
 
 impl Keeper for MemKeeper {
@@ -149,5 +181,33 @@ impl Keeper for MemKeeper {
 impl Archive for MemKeeper {
     fn frames(&self, alloc: Global, key: KeepKey) -> Result<Vec<Vec<u8>>, AllocError> {
         frames_of(alloc, key, self.kept.as_slice())
+    }
+
+    ghost compacts = { λ _. true };
+
+    fn kept(&self) -> u64 {
+        sessions_of(self.kept.as_slice())
+    }
+
+    fn compact(&mut self, alloc: Global) -> Result<(), KeepError>
+        ensures sessions { OnOk result ((id : ℕ) → Compacts (run_of (frames_of Table self.old.kept)) (frames_of (Session id) self.old.kept) (frames_of (Session id) self.new.kept)) }
+        ensures table { OnOk result (Some (frames_of Table self.new.kept) ≡ Some (frames_of Table self.old.kept)) }
+        ensures refused { OnErr result ((key : KeepKey) → Some (frames_of key self.new.kept) ≡ Some (frames_of key self.old.kept)) }
+        ensures counts { self.old.faults ≤ self.new.faults }
+        ensures fault { result ≡ Err Fault → Rose self.old.faults self.new.faults }
+        ensures no_fault { result ≢ Err Fault → self.new.faults ≡ self.old.faults }
+
+        // It never fails but for want of memory, and counts as no append.
+        ensures memory { result ≢ Err Fault }
+        ensures made { self.new.made ≡ self.old.made }
+        ensures failing { self.new.failing ≡ self.old.failing }
+    {
+        match compacted_kept(alloc, self.kept.as_slice()) {
+            Ok(kept) => {
+                self.kept = kept;
+                Ok(())
+            }
+            Err(_) => Err(KeepError::Memory),
+        }
     }
 }

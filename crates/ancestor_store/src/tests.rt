@@ -1,4 +1,5 @@
-//! Tests of what no clause says: folds of frames written out by hand, a keeper that fails once and goes on, and what a commit makes of an ancestor.
+//! Tests of what no clause says: folds of frames written out by hand, a keeper that fails once and goes on, what a commit makes of an ancestor, and what a
+//! compaction makes of a session's frames.
 ghost use Rattle.std.specs.Prelude.{IfOk, IsSome, IsTrue};
 ghost use Rattle.ancestor_store.specs.Committing.{with_frame};
 
@@ -23,6 +24,12 @@ const FOLDS: &str = "\
 bad 0#v2 agree 1 1|set a dir
 bad 1#v1 reset 1#v2 whole 1 9 4|set . dir
 bad 2#v1 reset 1#v1 reset 2#v1 reset 0
+bad 1#v2 agree 1 1|set . dir#v2 agree 01 2|drop .
+bad 0#v2 agree 1  1|set . dir
+bad 0#v2 agree 1 1|set . dir|set a%2fb dir
+bad 0#v2 agree 1 1|set . untracked
+bad 2#v1 reset 1#v1 reset 2#v2 agree 1 1|set . dir|
+bad 0#v1 agree 1 1|set . file ba7816bf8f01cfea414140de5dae2223b00361a396177a9cb410ff61f20015ad x
 bad 0#v1 opened";
 
 // A text's bytes, with an LF for each `|`.
@@ -193,6 +200,54 @@ fn a_commit_takes_up_its_frame_or_nothing(rt: HostRuntime) -> Result<(), Fail> {
         let (frame, wanted) = behind.split_once('>').unwrap_or((behind, ""));
         let (_, frames) = kept.split_once('#').unwrap_or((kept, ""));
         assert!(rt; commit_twice(alloc, frames, frame, wanted)?);
+    }
+    Ok(())
+}
+
+// Each row has the frames of a session, each behind a `#`, with `|` for LF; behind a `>` their number after a compaction in the first run, and these.
+const COMPACTIONS: &str = "\
+#v2 agree 1 1|set . dir|set a link =x#v2 agree 1 2|drop a>1#v2 whole 1 18446744073709551615 0|set . dir
+#v2 agree 1 1|set . dir#v1 reset 7>1#v2 whole 1 18446744073709551615 7
+#v2 whole 0 18446744073709551615 7|set . dir>1#v2 whole 1 18446744073709551615 7|set . dir
+#v1 reset 1#v1 reset 0>2#v1 reset 1#v1 reset 0";
+
+// The frames of session 5, as a row has them.
+fn frames_of_row(alloc: Global, keeper: &MemKeeper) -> Result<String, AllocError> {
+    let mut text = String::new(alloc);
+    for frame in keeper.frames(alloc, KeepKey::Session(5))? {
+        text.push('#')?;
+        for b in frame.as_slice() {
+            text.push(if *b == b'\n' { '|' } else { char::from(*b) })?;
+        }
+    }
+    Ok(text)
+}
+
+// The frames of a row after a compaction.
+fn compacted_row(alloc: Global, frames: &str) -> Result<String, AllocError> {
+    let mut kept = kept_of(alloc, frames)?;
+    kept.push(Kept {
+        key: KeepKey::Table,
+        bytes: Items::from_vec(bytes_of(alloc, "v1 opened")?),
+    })?;
+    let mut keeper = MemKeeper::of(alloc, kept, &[])?;
+    match keeper.compact(alloc) {
+        Ok(()) => {
+            let number = keeper.kept();
+            let frames = frames_of_row(alloc, &keeper)?;
+            format!(in alloc; "{number}{frames}")
+        }
+        Err(_) => Err(AllocError),
+    }
+}
+
+#[test]
+fn a_compaction_leaves_one_frame(rt: HostRuntime) -> Result<(), Fail> {
+    let alloc = rt.alloc();
+    for row in COMPACTIONS.lines() {
+        let (kept, wanted) = row.split_once('>').unwrap_or((row, ""));
+        let (_, frames) = kept.split_once('#').unwrap_or((kept, ""));
+        assert_eq!(rt; compacted_row(alloc, frames)?.as_str(), wanted);
     }
     Ok(())
 }
