@@ -2,7 +2,7 @@
 
 use super::*;
 use bytes::Bytes;
-use roots_api::{Content, Op, Who};
+use roots_api::{Answer, Content, Op, Who};
 use std::alloc::Global;
 use std::test::*;
 
@@ -45,6 +45,41 @@ const BODIES: &str = "\
 92
 93 0000000004000001
 94
+";
+
+/// A body of each kind behind its name.
+const KINDS: &str = "\
+list 01 00000000000000000000000000000007000000010000000000000002 0000
+fetch 02 00000000000000000000000000000007000000010000000000000002 0000 00000000000000000000000000000000 0000000000000000
+stage-clear 03 00000000000000000000000000000007000000010000000000000002
+stage-open 04 00000000000000000000000000000007000000010000000000000002
+stage-append 05 00000000000000000000000000000007000000010000000000000002 00000000
+stage-keep 06 00000000000000000000000000000007000000010000000000000002 ba7816bf8f01cfea414140de5dae2223b00361a396177a9cb410ff61f20015ad
+place 07 00000000000000000000000000000007000000010000000000000002 000161 ba7816bf8f01cfea414140de5dae2223b00361a396177a9cb410ff61f20015ad 00 00
+make-dir 08 00000000000000000000000000000007000000010000000000000002 000161
+make-link 09 00000000000000000000000000000007000000010000000000000002 000161 000178 00
+remove 0a 00000000000000000000000000000007000000010000000000000002 000161 01
+set-exec 0b 00000000000000000000000000000007000000010000000000000002 000161 02 00000000000000000000000000000000 00 01
+listed 81 00000000
+held 82 00
+piece 83 00000000 01
+changed 84 00
+too-large 85 0000000000000001
+cleared 86
+opened 87
+not-staged 88
+kept 89
+digest-differs 8a ba7816bf8f01cfea414140de5dae2223b00361a396177a9cb410ff61f20015ad ba7816bf8f01cfea414140de5dae2223b00361a396177a9cb410ff61f20015ad
+done 8b 00
+no-parent 8c 00
+differs 8d 00
+not-empty 8e
+no-exec 8f
+full 90 00000000000000000000000000000000
+failed 91
+no-memory 92
+too-long 93 0000000000000001
+no-link 94
 ";
 
 /// Bytes that are no message's: each has one field broken.
@@ -113,6 +148,68 @@ fn each_kind_has_the_bytes_of_the_table(rt: HostRuntime) -> Result<(), Fail> {
         let (length, behind) = spelled.split_at_checked(4).ok_or("a length")?;
         assert_eq!(rt; behind, body.as_slice());
         assert_eq!(rt; length, (body.len() as u32).to_be_bytes().as_slice());
+    }
+    Ok(())
+}
+
+/// The name of a request.
+fn op_name(op: &Op) -> &'static str {
+    match op {
+        Op::List { .. } => "list",
+        Op::Fetch { .. } => "fetch",
+        Op::StageClear => "stage-clear",
+        Op::StageOpen => "stage-open",
+        Op::StageAppend { .. } => "stage-append",
+        Op::StageKeep { .. } => "stage-keep",
+        Op::Place { .. } => "place",
+        Op::MakeDir { .. } => "make-dir",
+        Op::MakeLink { .. } => "make-link",
+        Op::Remove { .. } => "remove",
+        Op::SetExec { .. } => "set-exec",
+    }
+}
+
+/// The name of an answer.
+fn answer_name(answer: &Answer) -> &'static str {
+    match answer {
+        Answer::Listed(_) => "listed",
+        Answer::Held(_) => "held",
+        Answer::Piece { .. } => "piece",
+        Answer::Changed(_) => "changed",
+        Answer::TooLarge(_) => "too-large",
+        Answer::Cleared => "cleared",
+        Answer::Opened => "opened",
+        Answer::NotStaged => "not-staged",
+        Answer::Kept => "kept",
+        Answer::DigestDiffers { .. } => "digest-differs",
+        Answer::Done(_) => "done",
+        Answer::NoParent(_) => "no-parent",
+        Answer::Differs(_) => "differs",
+        Answer::NotEmpty => "not-empty",
+        Answer::NoExec => "no-exec",
+        Answer::Full(_) => "full",
+        Answer::Failed => "failed",
+        Answer::NoLink => "no-link",
+    }
+}
+
+/// The name of a message.
+fn message_name(message: &Message) -> &'static str {
+    match message {
+        Message::Ask(_, op) => op_name(op),
+        Message::Answer(answer) => answer_name(answer),
+        Message::NoMemory => "no-memory",
+        Message::TooLong(_) => "too-long",
+    }
+}
+
+#[test]
+fn each_kind_is_the_message_of_the_table(rt: HostRuntime) -> Result<(), Fail> {
+    for row in KINDS.lines() {
+        let (name, digits) = row.split_once(' ').ok_or("a name")?;
+        let body = bytes_of(rt.alloc(), digits)?;
+        let message = read_body(rt.alloc(), body.as_slice())?.ok_or("a message")?;
+        assert_eq!(rt; message_name(&message), name);
     }
     Ok(())
 }
