@@ -1,0 +1,34 @@
+use Rattle.std.proofs.Common.{◌∙◌, sym, ap, nat_eq}
+use Rattle.std.specs.Map.{set_value}
+use Rattle.std.specs.Option.{option_copied_mut}
+use Rattle.session_table.specs.declared.session.Session.{Session}
+use Rattle.session_table.specs.declared.sessions.Sessions.TheInside.{Inside}
+use Rattle.session_table.specs.Machine.{changed}
+use Rattle.session_table.specs.Standings.{with_report}
+use Rattle.session_table.specs.States.{SessionsState}
+use Rattle.session_table.proofs.Changing.{changed_here, changed_nowhere}
+use Rattle.session_table.proofs.sessions.Sessions.end.Goals as goal
+use Rattle.session_table.proofs.sessions.Sessions.end.Goals.{in-Some, in-None}
+
+pub returns-clause-live : goal.returns-clause-live
+returns-clause-live c =
+    let id = c.args.id in
+    let change = with_report c.args.report in
+    let es = c.self.inside.live.entries in
+    let seen = ap (λ (v : SessionsState). changed id change v.live) c.self.view_is in
+    elim c.match-get_mut.branch [
+      | in-Some w ↦
+          let s = w.in-Some.session.now in
+          let here = sym c.get_mut.ensures.value ∙ ap option_copied_mut w.in-Some.is in
+          ap (λ (x : Inside). x.live.entries) w.self-inside-is
+          ∙ (c.get_mut.follows.holds w.note.new.session).0
+          ∙ ap (set_value (nat_eq id) es) w.note.ensures
+          ∙ changed_here id change es s here
+          ∙ seen
+      | in-None w ↦
+          let here = sym c.get_mut.ensures.value ∙ ap option_copied_mut w.in-None.is in
+          ap (λ (x : Inside). x.live.entries) w.self-inside-is
+          ∙ ap (λ m. m.entries) c.get_mut.follows.holds-at-none
+          ∙ changed_nowhere id change es here
+          ∙ seen
+    ]
