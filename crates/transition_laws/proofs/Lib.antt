@@ -1,3 +1,9 @@
+mod Carrying
 mod Courses
 mod Few
+mod Finding
+mod Leaving
+mod Making
+mod Removing
 mod Taking
+mod Undisturbed
