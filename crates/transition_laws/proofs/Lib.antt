@@ -5,5 +5,6 @@ mod Finding
 mod Leaving
 mod Making
 mod Removing
+mod Serving
 mod Taking
 mod Undisturbed

@@ -1,5 +1,6 @@
 //! The laws. Each is the contract of a function that does nothing.
 ghost use Rattle.transition_laws.specs.Laws.{EachIsCounted, EachTakesOnlySeen, AreFew, AskInOrder};
+ghost use Rattle.transition_laws.specs.Staged.{StagesAlone, UndisturbedKeeps};
 ghost use Rattle.transition_laws.specs.Undisturbed.{UndisturbedLeaves, UndisturbedProblems};
 
 /// Each operation takes away only what is tracked, at a path of the old tree, and is asked with the entry that the stamps tell of it.
@@ -27,4 +28,11 @@ pub fn courses_follow()
 pub fn undisturbed_changes()
     ensures leaves { UndisturbedLeaves }
     ensures problems { UndisturbedProblems }
+{}
+
+/// A staging that nobody disturbs keeps every file that stands on the other side with its stamp, if the stamp's content has the file's digest and at most
+/// 16,777,216 bytes. It changes no entry and no content of the side that needs the files.
+pub fn undisturbed_stagings()
+    ensures keeps { UndisturbedKeeps }
+    ensures alone { StagesAlone }
 {}
