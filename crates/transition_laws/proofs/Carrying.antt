@@ -93,9 +93,9 @@ module _ (id : ℕ) (side : Side) (at : Names) where
           → ComesTo id (after s id op (answer_of s id op)) side ts (met here (step ∷ rest) (fate_of told)) (walk_by (fate_of (Some answer)))
       turn more op told ts is said =
           subst (λ (o : Op). AreTurns (met here (step ∷ rest) (fate_of told)) ts → AreAnswered id (after s id o (answer_of s id o)) ts → next_op (course_with (met here (step ∷ rest) (fate_of told)) ts) ≡ None
-            → ComesTo id (after s id o (answer_of s id o)) side ts (met here (step ∷ rest) (fate_of told)) (walk_by (fate_of (Some answer)))) is
+          → ComesTo id (after s id o (answer_of s id o)) side ts (met here (step ∷ rest) (fate_of told)) (walk_by (fate_of (Some answer)))) is
           (subst (λ (x : Option (Answer (List ℕ))). AreTurns (met here (step ∷ rest) (fate_of x)) ts → AreAnswered id next ts → next_op (course_with (met here (step ∷ rest) (fate_of x)) ts) ≡ None
-            → ComesTo id next side ts (met here (step ∷ rest) (fate_of x)) (walk_by (fate_of (Some answer)))) said
+          → ComesTo id next side ts (met here (step ∷ rest) (fate_of x)) (walk_by (fate_of (Some answer)))) said
           (one more (fate_of (Some answer)) ts))
 
       asked : Walked → (turns : List Turn) → AreTurns here turns → AreAnswered id s turns → next_op (course_with here turns) ≡ None → ComesTo id s side turns here (walk_by (fate_of (Some answer)))

@@ -75,7 +75,7 @@ module _ (old : ByPath Atom) (at : Names) (part : IsPartOfTree old at) where
   none_beneath none p =
       is_false (is_beneath_let_be old p)
       (λ h. let met = there_from_any (λ (e : Names × Atom). is_let_be e && is_below p e.0) old h in
-        no_true (is_tracked met.value) (all_tracked none met.path met.value met.there) (not_false (is_tracked met.value) (and_parts (not (is_tracked met.value)) (is_below p met.path) met.is).0))
+      no_true (is_tracked met.value) (all_tracked none met.path met.value met.there) (not_false (is_tracked met.value) (and_parts (not (is_tracked met.value)) (is_below p met.path) met.is).0))
 
   pub none_stays : has_let_be old ≡ false → (p : Names) → stays old p ≡ false
   none_stays none p = is_false (stays old p) (λ h. let why = reason old at part p h in no_true (is_tracked why.value) (all_tracked none why.path why.value why.there) why.let_be)
@@ -125,7 +125,7 @@ module _ (old : ByPath Atom) (at : Names) (part : IsPartOfTree old at) where
   alone_tracked leaf =
       is_false (has_let_be old)
       (λ h. let met = there_from_any is_let_be old h in
-        by met.path met.value met.there (not_false (is_tracked met.value) met.is) (part.within met.path (ap is_some met.there)) (is_under at met.path) refl)
+      by met.path met.value met.there (not_false (is_tracked met.value) met.is) (part.within met.path (ap is_some met.there)) (is_under at met.path) refl)
     where
       by : (p : Names) (a : Atom) → map.get old p ≡ Some a → is_tracked a ≡ false → is_under p at ≡ true → (b : Bool) → is_under at p ≡ b → ⊥
       by p a there let_be within true up =
@@ -137,7 +137,7 @@ module _ (old : ByPath Atom) (at : Names) (part : IsPartOfTree old at) where
 
 skips_all : (id : ℕ) (t : RootState) (p : Names) (e : Entry) (why : Option Cause) (rest : List Undone) (es : List (Names × Atom))
     → carry id t ((record { path = p; op = Remove p e; cause = why }) ∷ rest) (filter_map (creation None) es)
-      ≡ record { state = t; undone = ((record { path = p; op = Remove p e; cause = why }) ∷ rest) ++ list_map (not_done None) (filter_map (creation None) es) }
+    ≡ record { state = t; undone = ((record { path = p; op = Remove p e; cause = why }) ∷ rest) ++ list_map (not_done None) (filter_map (creation None) es) }
 skips_all id t p e why rest [] = ap (λ (u : List Undone). let end : Walk = record { state = t; undone = u } in end) (sym (append-nil ((record { path = p; op = Remove p e; cause = why }) ∷ rest)))
 skips_all id t p e why rest (x ∷ es) = by (λ rest. skips_all id t p e why rest es) x.1
   where
@@ -309,7 +309,7 @@ module _ (change : Change) (id : ℕ) (s : RootState) (stamps : ByPath Stamp) (m
           walked =
               ap walk_by k.answered
               ∙ k.lands (record { state = after s id step.op k.answer; undone = [] }) (record { state = after s id step.op k.answer; undone = [] })
-                (λ why. record { state = after s id step.op k.answer; undone = not_done (Some why) step ∷ [] })
+              (λ why. record { state = after s id step.op k.answer; undone = not_done (Some why) step ∷ [] })
 
       leaf_ends : (a b : Atom) (found : Entry) → map.get change.new at ≡ Some b → is_leaf (Some b) ≡ true → map.get s.tree at ≡ Some found
           → Ends change s (carry id s [] (option_to_list (creation (Some found) (at, b)))) []
@@ -382,7 +382,7 @@ module _ (change : Change) (id : ℕ) (s : RootState) (stamps : ByPath Stamp) (m
     outside p out =
         behind p
         ∙ ap (λ b. if b then None else map.get s.tree p)
-          (goes_nothing change.old at m.old p (nothing_there (map.get change.old p) (λ a there. no_true (is_under p at) (m.old.within p (ap is_some there)) out)))
+        (goes_nothing change.old at m.old p (nothing_there (map.get change.old p) (λ a there. no_true (is_under p at) (m.old.within p (ap is_some there)) out)))
 
     undone_is : removals.walk.undone ≡ list_map (note all) all
     undone_is = removals.removed.undone ∙ ap (λ (l : List Names). list_map (note all) l) (staying_is change.old (map.entries change.old))
@@ -498,8 +498,8 @@ module _ (change : Change) (id : ℕ) (s : RootState) (stamps : ByPath Stamp) (m
             not_up r n is =
                 is_false (is_under r at)
                 (λ up. no_true (is_below (r ++ n ∷ []) r) (child_below r n)
-                  (let turned : is_under r (r ++ n ∷ []) ≡ true = ap (is_under r) (sym is) ∙ up in
-                    is_false (is_below (r ++ n ∷ []) r) (λ below. no_true (is_under r (r ++ n ∷ [])) turned (below_parts (r ++ n ∷ []) r below).1)))
+                (let turned : is_under r (r ++ n ∷ []) ≡ true = ap (is_under r) (sym is) ∙ up in
+                is_false (is_below (r ++ n ∷ []) r) (λ below. no_true (is_under r (r ++ n ∷ [])) turned (below_parts (r ++ n ∷ []) r below).1)))
 
             by : (at ≡ []) ⊎ ((r : Names) × (n : List ℕ) × (at ≡ r ++ n ∷ [])) → missing_parent start.tree at ≡ None
             by (inl root) = ap (missing_parent start.tree) root

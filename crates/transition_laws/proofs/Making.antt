@@ -360,7 +360,7 @@ module _ (new : ByPath Atom) (at : Names) (part : IsPartOfTree new at) (first id
         after t id step.op (answer_of t id step.op),
         made step k,
         λ rest. ap (λ (x : Answer (List ℕ)). by_fate (carry id next [] rest) (record { state = next; undone = [] }) (λ why. carry id next (not_done (Some why) step ∷ []) rest) (fate_of (Some x))) k.answered
-          ∙ k.lands (carry id next [] rest) (record { state = next; undone = [] }) (λ why. carry id next (not_done (Some why) step ∷ []) rest),
+            ∙ k.lands (carry id next [] rest) (record { state = next; undone = [] }) (λ why. carry id next (not_done (Some why) step ∷ []) rest),
       )
         where
           next : RootState

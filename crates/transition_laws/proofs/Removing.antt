@@ -478,8 +478,8 @@ module _ (old : ByPath Atom) (at : Names) (part : IsPartOfTree old at) (stamps :
     -- one that isn't is asked, and answered so
     asks : (expected : Entry) (rest : List Step) (answer : Answer (List ℕ)) → is_blocked w.undone (Remove e.0 expected) ≡ false → answer_of w.state id (Remove e.0 expected) ≡ answer
         → carry id w.state w.undone (removed e.0 expected ∷ rest)
-          ≡ by_fate (carry id (after w.state id (Remove e.0 expected) answer) w.undone rest) (record { state = after w.state id (Remove e.0 expected) answer; undone = w.undone })
-            (λ why. carry id (after w.state id (Remove e.0 expected) answer) (w.undone ++ not_done (Some why) (removed e.0 expected) ∷ []) rest) (fate_of (Some answer))
+        ≡ by_fate (carry id (after w.state id (Remove e.0 expected) answer) w.undone rest) (record { state = after w.state id (Remove e.0 expected) answer; undone = w.undone })
+        (λ why. carry id (after w.state id (Remove e.0 expected) answer) (w.undone ++ not_done (Some why) (removed e.0 expected) ∷ []) rest) (fate_of (Some answer))
     asks expected rest answer h is =
         ap (λ b. if b then carry id w.state (w.undone ++ not_done None (removed e.0 expected) ∷ []) rest else asked (answer_of w.state id (Remove e.0 expected))) h
         ∙ ap asked is

@@ -236,12 +236,15 @@ module _ (side : Side) (needs : List Need) (id : ℕ) (here there : RootState) w
         piece : (bytes : List ℕ) → take MAX_PIECE rest ≡ bytes → Good h (at (with_piece bytes (offset + length bytes) last))
         piece [] is =
             behind_good [] (offset + 0) last (Fetching offset) h g g.tree g.ledger (λ q k. k)
-            (λ served. let had = g.hand served in
-              (offset, record { bytes_are = sym is; last_is = refl; end_is = refl }, record {
+            (λ served. let had = g.hand served in (
+              offset,
+              record { bytes_are = sym is; last_is = refl; end_is = refl },
+              record {
                 bytes = had.bytes;
                 begun = had.begun;
                 joined = ap (λ l. had.bytes ++ l) (ap (λ l. l ++ drop MAX_PIECE rest) (sym is) ∙ take-append-drop MAX_PIECE rest) ∙ had.joined;
-              }))
+              },
+            ))
         piece (byte ∷ bytes) is =
             goes_on (Fetching offset) (Appending (byte ∷ bytes) (offset + length (byte ∷ bytes)) last) h g g.tree g.ledger (λ q k. k)
             (λ served. record { start = offset; has = g.hand served; piece = record { bytes_are = sym is; last_is = refl; end_is = refl } })
@@ -271,15 +274,18 @@ module _ (side : Side) (needs : List Need) (id : ℕ) (here there : RootState) w
             (λ served. absurd (none_is_not_some (g.hand served).has.bytes (sym none ∙ (g.hand served).has.begun)))
         by (Some b) is =
             behind_good bytes end last (Appending bytes end last) (with_staged h id longer) g g.tree g.ledger (λ q k. still id h longer q refl k)
-            (λ served. let a = g.hand served in
-              (a.start, a.piece, record {
+            (λ served. let a = g.hand served in (
+              a.start,
+              a.piece,
+              record {
                 bytes = a.has.bytes ++ bytes;
                 begun = ap (λ (x : Staged). x.begun) (stage_here id h longer) ∙ ap (λ (o : Option (List ℕ)). option_map (λ before. before ++ bytes) o) a.has.begun;
                 joined =
                     append_assoc a.has.bytes bytes (drop MAX_PIECE (drop a.start (content need)))
                     ∙ ap (λ l. a.has.bytes ++ l) (ap (λ l. l ++ drop MAX_PIECE (drop a.start (content need))) a.piece.bytes_are ∙ take-append-drop MAX_PIECE (drop a.start (content need)))
                     ∙ a.has.joined;
-              }))
+              },
+            ))
 
     kept_now : Good h (at Keeping) → Good (after h id (StageKeep need.digest) (answer_of h id (StageKeep need.digest))) (stand_after side (at Keeping) (answer_of h id (StageKeep need.digest)))
     kept_now g = by (staged_by h id).begun refl
@@ -304,7 +310,7 @@ module _ (side : Side) (needs : List Need) (id : ℕ) (here there : RootState) w
         answered b is false e =
             let_go Keeping (with_staged h id dropped) _ g g.tree g.ledger (λ q k. still id h dropped q refl k)
             (λ served. absurd (no_true (bytes_eq (sha256 b) need.digest)
-              (ap (λ d. bytes_eq d need.digest) (ap sha256 (bytes_is b is served) ∙ served.is) ∙ name_itself need.digest) e))
+            (ap (λ d. bytes_eq d need.digest) (ap sha256 (bytes_is b is served) ∙ served.is) ∙ name_itself need.digest) e))
 
         by : (o : Option (List ℕ)) → (staged_by h id).begun ≡ o
             → Good (after h id (StageKeep need.digest) (keep_answer need.digest o)) (stand_after side (at Keeping) (keep_answer need.digest o))

@@ -75,7 +75,7 @@ module _ (change : Change) (id : ℕ) (s : RootState) (stamps : ByPath Stamp) (m
 
       by : (b : Bool) → sets_bit_alone change ≡ b
           → Ended (if b then option_to_list (bit_change stamps change.at (map.get change.old change.at) (map.get change.new change.at)) else
-            (if replaces_leaf change then option_to_list (leaf_change stamps change.at (map.get change.old change.at) (map.get change.new change.at)) else whole_steps stamps change))
+          (if replaces_leaf change then option_to_list (leaf_change stamps change.at (map.get change.old change.at) (map.get change.new change.at)) else whole_steps stamps change))
       by true alone = bit_case (map.get change.old change.at) (map.get change.new change.at) refl refl alone alone
       by false no_bit = other no_bit (replaces_leaf change) refl
 
@@ -140,7 +140,7 @@ module _ (side : Side) (all : List Names) where
 -- what is to be made is skipped for the first one that stays
 made_skipped : (side : Side) (first : Undone) (p : Names) (e : Rattle.entry_tree.specs.declared.entry.Entry.Entry) (rest : List Undone) (es : List (Names × Atom)) → first.op ≡ Remove p e
     → list_map (problem_of side (first ∷ rest)) (list_map (not_done None) (filter_map (creation None) es))
-      ≡ list_map (λ q. problem_at side q (cause.Skipped first.path)) (list_map (λ (x : Names × Atom). x.0) (filter (λ (x : Names × Atom). is_tracked x.1) es))
+    ≡ list_map (λ q. problem_at side q (cause.Skipped first.path)) (list_map (λ (x : Names × Atom). x.0) (filter (λ (x : Names × Atom). is_tracked x.1) es))
 made_skipped side first p e rest [] is = refl
 made_skipped side first p e rest (x ∷ es) is = by (made_skipped side first p e rest es is) x.1
   where

@@ -139,11 +139,11 @@ module _ (undone : List Undone) (folder : ℕ) (x : Undone) where
       → is_blocked (undone ++ x ∷ []) (Remove path expected) ≡ true → (folder' : ℕ) → is_held (undone ++ x ∷ []) folder' (Remove path expected) ≡ true
   removal_told path expected front next old h folder' =
       let here : rests_on (Remove path expected) x.op ≡ true =
-          or_elim (is_blocked undone (Remove path expected)) (rests_on (Remove path expected) x.op || false) (rests_on (Remove path expected) x.op ≡ true)
-          (sym (list_any-append (λ (u : Undone). rests_on (Remove path expected) u.op) undone (x ∷ [])) ∙ h)
-          (λ b. one_there (Remove path expected) (slice_get undone (length undone - 1)) (rests_on (Remove path expected) x.op ≡ true) (old b)
-          (λ u e r. remove_between path expected u.op x.op (at_place (λ (u : Undone). MayStandBefore u.op x.op) undone (length undone - 1) u front e) next r))
-          (λ r. or_elim (rests_on (Remove path expected) x.op) false (rests_on (Remove path expected) x.op ≡ true) r (λ h. h) (λ h. absurd (cc))) in
+      or_elim (is_blocked undone (Remove path expected)) (rests_on (Remove path expected) x.op || false) (rests_on (Remove path expected) x.op ≡ true)
+      (sym (list_any-append (λ (u : Undone). rests_on (Remove path expected) u.op) undone (x ∷ [])) ∙ h)
+      (λ b. one_there (Remove path expected) (slice_get undone (length undone - 1)) (rests_on (Remove path expected) x.op ≡ true) (old b)
+      (λ u e r. remove_between path expected u.op x.op (at_place (λ (u : Undone). MayStandBefore u.op x.op) undone (length undone - 1) u front e) next r))
+      (λ r. or_elim (rests_on (Remove path expected) x.op) false (rests_on (Remove path expected) x.op ≡ true) r (λ h. h) (λ h. absurd (cc))) in
       held_at (Remove path expected) (slice_get (undone ++ x ∷ []) (length (undone ++ x ∷ []) - 1)) x (is_last undone x) here
 
 -- what is made at a path
@@ -173,7 +173,7 @@ module _ (first : Undone) (others : List Undone) (folder : ℕ) (x : Undone) (pa
       let before : MayStandBefore u.op (MakeDir y) = subst (λ (o : Op). MayStandBefore u.op o) e (at_place (λ (u : Undone). MayStandBefore u.op x.op) undone folder u front at) in
       let rests_too : creation_rests_on y u.op ≡ true = rests_between path y u.op before (less y e) h in
       let held_too : is_held undone folder (MakeDir y) ≡ true =
-          or_right (rests_on_one (MakeDir y) (slice_get undone 0)) (rests_on_one (MakeDir y) (slice_get undone folder)) (held_at (MakeDir y) (slice_get undone folder) u at rests_too) in
+      or_right (rests_on_one (MakeDir y) (slice_get undone 0)) (rests_on_one (MakeDir y) (slice_get undone folder)) (held_at (MakeDir y) (slice_get undone folder) u at rests_too) in
       let bad : true ≡ false = sym held_too ∙ same in
       absurd (cc)
   from_folder (OpList q) e held same u at h = stays u at h

@@ -8,5 +8,5 @@ invariant_of-result c = (
   search rules,
   search rules,
   subst (λ undone. AreInOrder undone 0 c.from_vec.result.items) (sym c.in_ok-undone.ensures.items)
-  (subst (AreInOrder [] 0) (sym (c.from_vec.ensures.items ∙ c.in_ok-steps.ensures)) (first_in_order c.args.stamps.now c.args.change.now)),
+      (subst (AreInOrder [] 0) (sym (c.from_vec.ensures.items ∙ c.in_ok-steps.ensures)) (first_in_order c.args.stamps.now c.args.change.now)),
 )

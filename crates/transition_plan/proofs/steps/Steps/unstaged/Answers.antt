@@ -10,5 +10,5 @@ invariant_of-self-else-is_whole_unstaged c = (
   search rules,
   search rules,
   subst (AreInOrder c.self.inside.undone.items c.self.inside.folder) (sym c.keep_staged.ensures.kept)
-  (kept_in_order c.self.inside.undone.items c.self.inside.folder (λ (step : Step). not (is_unstaged c.args.missing.now step.op)) c.self.inside.rest.items c.self.invariant.2),
+      (kept_in_order c.self.inside.undone.items c.self.inside.folder (λ (step : Step). not (is_unstaged c.args.missing.now step.op)) c.self.inside.rest.items c.self.invariant.2),
 )
