@@ -2,7 +2,7 @@ mod Accounts
 mod Few
 mod Following
 mod Passing
-mod Pending
+pub mod Pending
 mod Pieces
 mod Runs
 mod Stopping

@@ -1,3 +1,10 @@
+mod Carrying
 mod Courses
 mod Few
+mod Finding
+mod Leaving
+mod Making
+mod Removing
+mod Serving
 mod Taking
+mod Undisturbed

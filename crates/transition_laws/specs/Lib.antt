@@ -1,3 +1,5 @@
 pub mod Laws
+pub mod Staged
 pub mod Taking
 pub mod Turns
+pub mod Undisturbed

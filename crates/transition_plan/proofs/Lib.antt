@@ -1,1 +1,4 @@
-pub mod Skipping
+mod InOrder
+mod Places
+mod Skipping
+mod Tellers

@@ -20,6 +20,7 @@
 
 mod blocking;
 mod fate;
+mod holding;
 mod planning;
 mod reports;
 mod resting;

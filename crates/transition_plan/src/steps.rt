@@ -7,6 +7,7 @@ ghost use Rattle.transition_plan.specs.declared.fate.Fate.TheVariants.{Landed, E
 
 use crate::blocking::skip_blocked;
 use crate::fate::Fate;
+use crate::holding::folder_with;
 use crate::planning::steps_of;
 use crate::reports::problems_of;
 use crate::step::Step;
@@ -30,18 +31,21 @@ pub struct Steps {
     rest: VecDeque<Step>,
     landed: Vec<AncestorLine>,
     undone: Vec<Undone>,
+    // Where among these the last folder is that rests on none before it.
+    folder: usize,
 }
 
 impl Model for Steps {
     ghost use Rattle.std.specs.Prelude.{◌+◌, ◌≤◌, length};
     ghost use Rattle.std.specs.Vec.{vec_capacity};
     ghost use Rattle.transition_plan.specs.Courses.{Course};
+    ghost use Rattle.transition_plan.specs.Order.{AreInOrder};
 
     ghost Value = { Course };
 
     ghost view = { λ s. record { side = s.side; at = s.at; rest = s.rest.items; landed = s.landed.items; undone = s.undone.items } };
 
-    ghost invariant = { λ s. (length s.rest.items + length s.landed.items ≤ vec_capacity s.landed) × (length s.rest.items + length s.undone.items ≤ vec_capacity s.undone) };
+    ghost invariant = { λ s. (length s.rest.items + length s.landed.items ≤ vec_capacity s.landed) × (length s.rest.items + length s.undone.items ≤ vec_capacity s.undone) × AreInOrder s.undone.items s.folder s.rest.items };
 }
 
 impl Steps {
@@ -63,6 +67,7 @@ impl Steps {
             rest: VecDeque::from_vec(steps),
             landed,
             undone,
+            folder: 0,
         })
     }
 
@@ -92,7 +97,7 @@ impl Steps {
 
     /// Takes up what the operation asked next was answered; none stands for want of memory of it. It takes no memory.
     ///
-    /// Where nothing is asked it changes nothing.
+    /// Where nothing is asked it changes nothing. Cost: two comparisons of paths, and as much for each operation that is skipped.
     pub fn take(&mut self, answer: Option<&Answer>)
         ensures { self.new ≡ taken self.old (option_copied answer.entry) }
     {
@@ -124,7 +129,7 @@ impl Steps {
     {
         if let Some(step) = self.rest.pop_front() {
             self.landed.push_reserved(into_line(step));
-            skip_blocked(&mut self.rest, &mut self.undone);
+            skip_blocked(&mut self.rest, &mut self.undone, self.folder);
         }
     }
 
@@ -140,8 +145,9 @@ impl Steps {
         ensures { self.new ≡ met self.old self.old.rest (Missed cause) }
     {
         if let Some(step) = self.rest.pop_front() {
+            self.folder = folder_with(self.undone.as_slice(), self.folder, &step.op);
             self.undone.push_reserved(not_done(step, Some(cause)));
-            skip_blocked(&mut self.rest, &mut self.undone);
+            skip_blocked(&mut self.rest, &mut self.undone, self.folder);
         }
     }
 }
