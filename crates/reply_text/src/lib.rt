@@ -30,7 +30,7 @@ pub use forward_row::{ForwardRow, ForwardState};
 pub use listed::Listed;
 pub use refusal::{MAX_CLIENTS, MAX_SESSIONS, Refusal};
 pub use reply::Reply;
-pub use reply_lines::{push_reply, write_reply};
+pub use reply_lines::write_reply;
 pub use report_rows::ReportRows;
 pub use stream_read::StreamRead;
 pub use sync_row::{SyncRow, SyncState};

@@ -1,7 +1,8 @@
 //! Tests of what no clause says: each refusal and each reply as it is spelt, written out by hand from docs/FORMATS.md.
+use crate::reply_lines::push_reply;
 use crate::{
     ConflictRow, ForwardRow, ForwardState, Listed, Refusal, Reply, ReportRows, StreamRead, SyncRow,
-    SyncState, push_reply, write_reply,
+    SyncState, write_reply,
 };
 use command_words::{Endpoint, GivenName, Identifier, Labels, RootName, SessionKind, read_label};
 use entry_tree::{Digest, Side, read_atom, read_path};
