@@ -1,4 +1,3 @@
-use Rattle.std.proofs.Common.{◌≡◌}
 use Rattle.reply_text.proofs.report_rows.write_cause.Goals as goal
 
 pub returns-in-DigestDiffers : goal.returns-in-DigestDiffers

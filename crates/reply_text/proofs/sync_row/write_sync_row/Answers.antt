@@ -1,4 +1,4 @@
-use Rattle.std.proofs.Common.{◌≡◌, ◌∷◌, [], string_bytes}
+use Rattle.std.proofs.Common.{◌∷◌, [], string_bytes}
 use Rattle.std.proofs.lemmas.Result.{on_ok_weaker}
 use Rattle.reply_text.specs.Lines.{newline}
 use Rattle.reply_text.specs.Rows.{count_words, labels_words, state_words, sync_line, what_words}
