@@ -15,6 +15,7 @@ use std::alloc::AllocError;
 use sync_path::Path;
 
 /// A word that is to be written into a line.
+#[derive(Clone, Copy)]
 pub enum Piece<'a> {
     /// A text as it stands.
     Text(&'a str),
