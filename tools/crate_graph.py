@@ -14,7 +14,7 @@ FLOORS = [
     ("runs", ["script_engine"]),
     ("cycles", ["scan_cache", "scan_core", "scan_laws", "frame_text", "ancestor_store", "transition_plan", "transition_laws", "stage_core", "session_control", "agent_proto", "plan_laws", "reconcile"]),
     ("roots", ["mem_roots", "root_laws"]),
-    ("models", ["mode_rules", "roots_api", "ignore_rules", "ignore_glob", "entry_tree", "sync_path", "reply_text", "command_words", "line_words"]),
+    ("models", ["mode_rules", "roots_api", "ignore_rules", "ignore_glob", "entry_tree", "sync_path", "reply_text", "request_text", "command_words", "line_words"]),
     ("streams", ["forward_core", "mux_link", "mux_core", "mux_frames"]),
     ("edges", ["outside_io", "workload", "frame_journal", "disk_model", "worker_pool", "history_cell"]),
     ("base", ["fault_count", "finite_maps"]),
