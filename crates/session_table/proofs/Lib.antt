@@ -1,1 +1,5 @@
 pub mod Changing
+pub mod Distinct
+pub mod Lookups
+pub mod Repeated
+pub mod Sound

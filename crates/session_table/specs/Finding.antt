@@ -1,6 +1,6 @@
 -- How sessions and clients are found.
-use Rattle.std.specs.Prelude.{ℕ, Bool, true, false, ◌&&◌, cond, List, [], ◌∷◌, Option, Some, None, bytes_eq, nat_eq, slice_get}
-use Rattle.std.specs.List.{position}
+use Rattle.std.specs.Prelude.{ℕ, Bool, true, false, ◌&&◌, cond, List, [], ◌∷◌, Option, Some, None, bytes_eq, nat_eq}
+use Rattle.std.specs.List.{find}
 use Rattle.std.specs.Map.{lookup}
 use Rattle.std.specs.Option.{option_map}
 use Rattle.command_words.specs.declared.session.SessionWord.{SessionWord}
@@ -48,14 +48,9 @@ abbrev pub id_by : SessionKind → SessionWord → List (ℕ × Session) → Opt
 id_by kind (Identified i) live = cond (same_kind kind i.kind) (id_of_kind kind i.id live) None
 id_by kind (Named name) live = id_named kind name live
 
--- where the client stands that has the name
-abbrev pub client_place : List ℕ → List ClientRow → Option ℕ
-client_place name rows = position (λ (row : ClientRow). bytes_eq name row.name) rows
-
-abbrev pub row_at : Option ℕ → List ClientRow → Option ClientRow
-row_at None rows = None
-row_at (Some at) rows = slice_get rows at
+abbrev pub is_client : List ℕ → ClientRow → Bool
+is_client name row = bytes_eq name row.name
 
 -- what is kept of the client that has the name
 abbrev pub client_named : List ℕ → List ClientRow → Option ClientRow
-client_named name rows = row_at (client_place name rows) rows
+client_named name rows = find (is_client name) rows

@@ -1,6 +1,7 @@
 pub mod Answers
 pub mod Creates
 pub mod Finding
+pub mod Laws
 pub mod Lists
 pub mod Machine
 pub mod Replies

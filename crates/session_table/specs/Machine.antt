@@ -1,5 +1,6 @@
 -- The session table as one machine: what an operation is answered, and the table that it leaves.
-use Rattle.std.specs.Prelude.{◌≡◌, ℕ, Bool, true, false, cond, not, ◌&&◌, ◌++◌, max, List, [], ◌∷◌, Option, Some, None, is_some, is_none, nat_eq, nat_le, slice_set, IsTrue}
+use Rattle.std.specs.Prelude.{◌≡◌, ℕ, Bool, true, false, cond, not, ◌&&◌, ◌++◌, max, List, [], ◌∷◌, Option, Some, None, is_some, is_none, nat_eq, nat_lt, length, slice_set, IsTrue}
+use Rattle.std.specs.List.{position_or_len}
 use Rattle.std.specs.Map.{lookup, remove_entry}
 use Rattle.std.specs.Option.{option_map}
 use Rattle.command_words.specs.declared.client.Client.{Client}
@@ -8,7 +9,7 @@ use Rattle.mode_rules.specs.declared.report.CycleReport.{CycleReport}
 use Rattle.session_control.specs.declared.standing.Standing.{Standing}
 use Rattle.session_table.specs.Answers.{answer, turned_away}
 use Rattle.session_table.specs.Lists.{query_reply, wait_reply}
-use Rattle.session_table.specs.Finding.{client_place, standing_at}
+use Rattle.session_table.specs.Finding.{is_client, standing_at}
 use Rattle.session_table.specs.Standings.{after, change_by, new_session, with_report, with_standing}
 use Rattle.session_table.specs.Replies.{is_lasting, is_refused}
 use Rattle.session_table.specs.States.{Machine}
@@ -74,13 +75,12 @@ done (Terminate kind word) reply m = terminated_by reply m
 abbrev pub client_row : Client → CommandReply → ClientRow
 client_row client reply = record { name = client.name; number = client.number; reply = reply }
 
-abbrev pub put_at : Option ℕ → ClientRow → List ClientRow → List ClientRow
-put_at None row rows = rows ++ row ∷ []
-put_at (Some at) row rows = slice_set rows at row
+abbrev pub put_at : ℕ → ClientRow → List ClientRow → List ClientRow
+put_at at row rows = cond (nat_lt at (length rows)) (slice_set rows at row) (rows ++ row ∷ [])
 
--- the clients, with this one's last number and its reply; a new client stands last
+-- the clients, with this one's last number and its reply in its place; a new client stands last
 abbrev pub kept : Client → CommandReply → List ClientRow → List ClientRow
-kept client reply rows = put_at (client_place client.name rows) (client_row client reply) rows
+kept client reply rows = put_at (position_or_len (is_client client.name) rows) (client_row client reply) rows
 
 abbrev pub kept_for : Option Client → CommandReply → Machine → Machine
 kept_for None reply m = m

@@ -1,9 +1,10 @@
 //! The clients of a table.
-ghost use Rattle.std.specs.Prelude.{◌≡◌, ◌<◌, ◌++◌, ◌∷◌, [], length, None, IfSome, OnOk};
+ghost use Rattle.std.specs.Prelude.{◌≡◌, ◌<◌, ◌++◌, ◌∷◌, [], length, None, OnOk, slice_get};
 ghost use Rattle.std.specs.Option.{option_copied};
 ghost use Rattle.session_table.specs.Answers.{by_number, by_row, turned_away};
 ghost use Rattle.session_table.specs.Machine.{client_row, kept};
-ghost use Rattle.session_table.specs.Finding.{client_named, client_place};
+ghost use Rattle.session_table.specs.Finding.{client_named, is_client};
+ghost use Rattle.std.specs.List.{position, position_or_len};
 
 use crate::client_row::{ClientRow, MAX_CLIENTS};
 use crate::refusal::TableRefusal;
@@ -41,10 +42,7 @@ impl Clients {
     fn named(&self, name: &GivenName) -> Option<&ClientRow>
         ensures { option_copied result ≡ client_named name.now self.now.rows }
     {
-        match place_of(self.rows.as_slice(), name) {
-            Some(at) => self.rows.get(at),
-            None => None,
-        }
+        row_named(self.rows.as_slice(), name)
     }
 
     /// The reply to a line that doesn't act.
@@ -81,11 +79,12 @@ impl Clients {
         requires { 0 < self.old.room }
         ensures { self.new.rows ≡ kept client reply self.old.rows }
     {
-        let place = place_of(self.rows.as_slice(), &client.name);
+        let at = place_of(self.rows.as_slice(), &client.name);
         let row = row_of(client, reply);
-        match place {
-            Some(at) => self.rows[at] = row,
-            None => self.rows.push_reserved(row),
+        if at < self.rows.len() {
+            self.rows[at] = row;
+        } else {
+            self.rows.push_reserved(row);
         }
     }
 }
@@ -102,10 +101,33 @@ fn row_of(client: Client, reply: CommandReply) -> ClientRow
     }
 }
 
+// What is kept of the client that has the name.
+fn row_named<'a>(rows: &'a [ClientRow], name: &GivenName) -> Option<&'a ClientRow>
+    ensures { option_copied result ≡ client_named name.now rows.now }
+{
+    row_at(rows, place_of(rows, name))
+}
+
+// The row at a place, if there is one.
+fn row_at(rows: &[ClientRow], at: usize) -> Option<&ClientRow>
+    ensures { option_copied result ≡ slice_get rows.now at }
+{
+    rows.get(at)
+}
+
+// How many rows stand before that of the client that has the name.
+fn place_of(rows: &[ClientRow], name: &GivenName) -> usize
+    ensures { result ≡ position_or_len (is_client name.now) rows.now }
+{
+    match first_of(rows, name) {
+        Some(at) => at,
+        None => rows.len(),
+    }
+}
+
 // Where the client stands that has the name.
-fn place_of(rows: &[ClientRow], name: &GivenName) -> Option<usize>
-    ensures value { result ≡ client_place name.now rows.now }
-    ensures within { IfSome result (λ at. at < length rows.now) }
+fn first_of(rows: &[ClientRow], name: &GivenName) -> Option<usize>
+    ensures { result ≡ position (is_client name.now) rows.now }
 {
     rows.iter().position(|row| *name == row.name)
 }

@@ -17,6 +17,7 @@ mod client_row;
 mod clients;
 mod create;
 mod kinds;
+pub mod laws;
 mod lists;
 mod op;
 mod refusal;

@@ -5,6 +5,7 @@ ghost use Rattle.std.specs.Map.Iter.{ShowsInOrder, deref_pair};
 ghost use Rattle.session_table.specs.declared.session.Session.{Session};
 ghost use Rattle.std.specs.Option.{option_copied, option_map};
 ghost use Rattle.session_table.specs.Finding.{id_by, id_named, id_of_kind, standing_at};
+ghost use Rattle.command_words.specs.declared.session.SessionWord.TheVariants.{Identified};
 ghost use Rattle.session_table.specs.Machine.{changed};
 ghost use Rattle.session_table.specs.Standings.{change_by, new_session, with_report, with_standing};
 
@@ -126,18 +127,23 @@ impl Sessions {
         }
     }
 
+    /// The identifier, if it is of the kind, and a live session of the kind has it.
+    pub(crate) fn identified(&self, kind: SessionKind, identifier: Identifier) -> Option<u128>
+        ensures { result ≡ id_by kind (Identified identifier) self.now.live }
+    {
+        if same_kind(kind, identifier.kind) {
+            self.id_of_kind(kind, identifier.id)
+        } else {
+            None
+        }
+    }
+
     /// The identifier of the session of the kind that a line names so.
     pub(crate) fn id_by(&self, kind: SessionKind, session: &SessionWord) -> Option<u128>
         ensures { result ≡ id_by kind session.now self.now.live }
     {
         match session {
-            SessionWord::Identified(identifier) => {
-                if same_kind(kind, identifier.kind) {
-                    self.id_of_kind(kind, identifier.id)
-                } else {
-                    None
-                }
-            }
+            SessionWord::Identified(identifier) => self.identified(kind, *identifier),
             SessionWord::Named(name) => self.id_named(kind, name.as_str()),
         }
     }

@@ -3,7 +3,10 @@ ghost use Rattle.std.specs.Prelude.{◌≡◌, ◌<◌, OnOk, nat_eq, slice_get}
 ghost use Rattle.std.specs.Map.{lookup};
 ghost use Rattle.std.specs.Option.{option_copied, option_map};
 ghost use Rattle.session_table.specs.Machine.{altered, empty_machine, with_run, Steps};
-ghost use Rattle.session_table.specs.Finding.{standing_at};
+ghost use Rattle.session_table.specs.Finding.{id_by, id_named, standing_at};
+ghost use Rattle.command_words.specs.Identifier.{identifier_word, IsIdentifier};
+ghost use Rattle.command_words.specs.declared.identifier.Identifier.{Identifier};
+ghost use Rattle.command_words.specs.declared.session.SessionWord.TheVariants.{Identified};
 ghost use Rattle.session_table.specs.Standings.{after};
 ghost use Rattle.session_control.specs.declared.standing.Standing.{Standing};
 ghost use Rattle.session_table.specs.declared.change.Change.TheVariants as changes;
@@ -17,6 +20,7 @@ use crate::reply::TableReply;
 use crate::session::Row;
 use crate::sessions::Sessions;
 use crate::standings::after;
+use command_words::{Identifier, SessionKind};
 use std::alloc::{AllocError, Global};
 use std::marker::Model;
 
@@ -61,6 +65,19 @@ impl Table {
         ensures spare { spare self.new ≡ spare self.old }
     {
         self.run = run;
+    }
+
+    /// The identifier of the live session of the kind that has this identifier or this name. It takes no memory.
+    ///
+    /// Cost: O(1), a hash; for a name a look at the names of the live sessions.
+    pub fn find(&self, kind: SessionKind, session: &str) -> Option<u128>
+        ensures identified { (i : Identifier) → IsIdentifier i → session.now ≡ identifier_word i → result ≡ id_by kind (Identified i) self.now.machine.live }
+        ensures named { ((i : Identifier) → IsIdentifier i → session.now ≡ identifier_word i → ⊥) → result ≡ id_named kind session.now self.now.machine.live }
+    {
+        match Identifier::read(session.as_bytes()) {
+            Some(identifier) => self.sessions.identified(kind, identifier),
+            None => self.sessions.id_named(kind, session),
+        }
     }
 
     /// The identifier of a session and what it was made of, if it is live. It takes no memory. Cost: O(1), a hash.

@@ -13,7 +13,7 @@ mod replies;
 mod rows;
 
 use replies::text_of;
-use rows::BLOCKS;
+use rows::{BLOCKS, FIRST_RUN, FULL, SECOND_RUN};
 
 fn number(word: &str) -> Result<u64, Fail> {
     Ok(word.parse().ok().ok_or("no number")?)
@@ -195,11 +195,10 @@ fn reply_to(alloc: Global, table: &mut Table, row: &str, whole: bool) -> Result<
 }
 
 // The first row of a block whose reply isn't the wanted one, with its reply.
-fn first_wrong(alloc: Global, block: &str, whole: bool) -> Result<String, Fail> {
-    let mut table = Table::new(alloc, 1);
+fn first_wrong(alloc: Global, table: &mut Table, block: &str, whole: bool) -> Result<String, Fail> {
     for line in block.lines() {
         let (row, wanted) = line.split_once(" = ").unwrap_or((line, ""));
-        let reply = reply_to(alloc, &mut table, row, whole)?;
+        let reply = reply_to(alloc, table, row, whole)?;
         if reply.as_str() != wanted {
             return Ok(format!(in alloc; "{row} = {reply}")?);
         }
@@ -211,8 +210,48 @@ fn first_wrong(alloc: Global, block: &str, whole: bool) -> Result<String, Fail> 
 fn tables_of_operations_and_replies(rt: HostRuntime) -> Result<(), Fail> {
     let alloc = rt.alloc();
     for block in BLOCKS.split("\n\n") {
-        assert_eq!(rt; first_wrong(alloc, block, true)?.as_str(), "");
-        assert_eq!(rt; first_wrong(alloc, block, false)?.as_str(), "");
+        for whole in [true, false] {
+            let mut table = Table::new(alloc, 1);
+            assert_eq!(rt; first_wrong(alloc, &mut table, block, whole)?.as_str(), "");
+        }
     }
+    Ok(())
+}
+
+// A table of 256 sessions, and then 64 clients.
+fn filled(alloc: Global) -> Result<Table, Fail> {
+    let mut table = Table::new(alloc, 1);
+    for n in 0..256u64 {
+        let row = format!(in alloc; "- - create sync - A+B - {n}")?;
+        reply_to(alloc, &mut table, row.as_str(), true)?;
+    }
+    for n in 0..64u64 {
+        let row = format!(in alloc; "c{n} 1 pause sync nope")?;
+        reply_to(alloc, &mut table, row.as_str(), true)?;
+    }
+    Ok(table)
+}
+
+#[test]
+fn sessions_and_clients_are_bounded(rt: HostRuntime) -> Result<(), Fail> {
+    let alloc = rt.alloc();
+    let mut table = filled(alloc)?;
+    assert_eq!(rt; first_wrong(alloc, &mut table, FULL, true)?.as_str(), "");
+    Ok(())
+}
+
+#[test]
+fn a_new_run_refuses_those_who_wait(rt: HostRuntime) -> Result<(), Fail> {
+    let alloc = rt.alloc();
+    let mut table = Table::new(alloc, 1);
+    assert_eq!(rt; first_wrong(alloc, &mut table, FIRST_RUN, true)?.as_str(), "");
+    table.set_run(2);
+    assert_eq!(rt; first_wrong(alloc, &mut table, SECOND_RUN, false)?.as_str(), "");
+    assert_eq!(rt; table.find(SessionKind::Sync, "s"), Some(5));
+    assert_eq!(rt; table.find(SessionKind::Sync, "sync_00000000-0000-0000-0000-000000000005"), Some(5));
+    assert!(rt; table.find(SessionKind::Forward, "s").is_none());
+    assert_eq!(rt; table.row(5).map(|row| row.id), Some(5));
+    assert_eq!(rt; table.at(0).map(|row| row.id), Some(5));
+    assert!(rt; table.at(1).is_none());
     Ok(())
 }

@@ -87,3 +87,30 @@ d 1 reset sync #0 = reset #0
 - - terminate sync s = terminate #0
 - - wait 0 1 = no-session
 - - query report s = no-session";
+
+/// What follows where 256 sessions and 64 clients are there.
+pub(super) const FULL: &str = "\
+- - create sync s A+B - 300 = table-full
+- - create forward s - - 0 = table-full
+- - create sync s A+A - 300 = same-root
+- - terminate sync #7 = terminate #7
+- - create sync s A+B - 7 = id-taken #7
+- - create sync s A+B - 300 = create #300
+- - create sync s A+B - 301 = table-full
+c64 1 pause sync #0 = clients-full
+c0 1 pause sync #0 = no-session
+c0 2 pause sync #0 = pause #0
+c63 2 pause sync #300 = pause #300";
+
+/// What is kept in a first run.
+pub(super) const FIRST_RUN: &str = "\
+- - create sync s A+B - 5 = create #5
+c 1 flush sync s = awaits 5 run 1 cycle 1
+- - wait 5 1 = pending 0 1";
+
+/// What follows in a second one.
+pub(super) const SECOND_RUN: &str = "\
+c 1 flush sync s = awaits 5 run 1 cycle 1
+- - wait 5 1 = old-run 2
+- - wait 6 1 = no-session
+c 2 flush sync s = awaits 5 run 2 cycle 1";
