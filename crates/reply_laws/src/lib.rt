@@ -1,0 +1,6 @@
+//! Laws of the spelling of replies, for whoever reasons over what a client reads.
+//!
+//! Each law is the contract of a function that does nothing. The replies are those of `reply_text`; `specs/` states what the laws speak of.
+#![tactic(auto)]
+
+pub mod laws;
