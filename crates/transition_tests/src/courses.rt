@@ -48,8 +48,8 @@ fn turn(alloc: Global, steps: &mut Steps, text: &mut String, letter: char) -> Re
     Ok(())
 }
 
-// Writes what came of it, with what would be asked next.
-fn push_end(alloc: Global, steps: &Steps, text: &mut String) -> Result<(), Fail> {
+/// Writes what came of it, with what would be asked next.
+pub fn push_end(alloc: Global, steps: &Steps, text: &mut String) -> Result<(), Fail> {
     if let Some(op) = steps.next() {
         push_op(alloc, text, op)?;
     }

@@ -58,6 +58,8 @@ pub fn push_problem(alloc: Global, text: &mut String, problem: &Problem) -> Resu
     match &problem.cause {
         Cause::Differs => text.push_str(" differs")?,
         Cause::NotEmpty => text.push_str(" not-empty")?,
+        Cause::NoParent => text.push_str(" no-parent")?,
+        Cause::NotStaged => text.push_str(" not-staged")?,
         Cause::NoMemory => text.push_str(" no-memory")?,
         Cause::Skipped(path) => {
             text.push_str(" skipped ")?;
