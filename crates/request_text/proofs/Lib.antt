@@ -1,1 +1,10 @@
+pub mod Alive
+pub mod Choices
+pub mod Leading
+pub mod LineSteps
+pub mod ReadLines
+pub mod Sound
+pub mod Tables
+pub mod Whole
+pub mod WordKinds
 pub mod Writing

@@ -1,6 +1,12 @@
+pub mod Given
+pub mod Grammar
 pub mod Orders
 pub mod Patterns
+pub mod Places
+pub mod Requests
+pub mod SettingWords
 pub mod Settings
 pub mod Skipped
+pub mod States
 pub mod Words
 pub mod Writing

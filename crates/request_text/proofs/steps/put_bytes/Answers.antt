@@ -1,0 +1,12 @@
+use Rattle.std.proofs.Common.{ℕ, List}
+use Rattle.request_text.specs.Places.{IsContents}
+use Rattle.request_text.specs.declared.place.Place.TheVariants as at
+use Rattle.request_text.specs.declared.request.Request.TheVariants as requests
+use Rattle.request_text.proofs.Leading.{found_at, not_found}
+use Rattle.request_text.proofs.steps.put_bytes.Goals as goal
+
+pub returns-in-Some : goal.returns-in-Some
+returns-in-Some c = found_at {V = List ℕ} c.in_ok-found.field-0 (IsContents c.args.word.now) (λ bytes. at.Done (requests.Put c.args.target bytes)) c.in-Some.found c.in_ok-found.ensures c.in-Some.is
+
+pub returns-in-None : goal.returns-in-None
+returns-in-None c = not_found {V = List ℕ} c.in_ok-found.field-0 (IsContents c.args.word.now) (λ bytes. at.Done (requests.Put c.args.target bytes)) c.in_ok-found.ensures c.in-None.is
