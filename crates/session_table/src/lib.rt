@@ -9,7 +9,7 @@
 //! let reply = table.step(TableOp::Look { id });
 //! ```
 //!
-//! The test `tables_of_operations_and_replies` makes these calls.
+//! The test `a_session_is_made_and_looked_at` makes these calls.
 #![tactic(auto)]
 
 mod change;
