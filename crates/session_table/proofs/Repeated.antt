@@ -1,7 +1,6 @@
 -- A client's line that is sent again.
-use Rattle.std.proofs.Common.{◌≡◌, ◌∙◌, ℕ, Bool, true, false, cond, ◌≤◌, ◌++◌, List, [], ◌∷◌, Option, Some, None, nat_eq, nat_lt, length, slice_get, slice_set, refl, sym, ap, subst, arith, ◌<◌}
+use Rattle.std.proofs.Common.{◌≡◌, ◌∙◌, ℕ, Bool, true, false, cond, ◌≤◌, ◌++◌, List, [], ◌∷◌, Option, Some, None, nat_lt, length, slice_set, refl, sym, ap, subst, arith, ◌<◌}
 use Rattle.std.proofs.lemmas.Bool.{eq-eqb}
-use Rattle.std.proofs.lemmas.Bool.Decides.{nat_tests}
 use Rattle.std.proofs.lemmas.List.Folds.{find_at, find-set}
 use Rattle.std.proofs.lemmas.Option.{slice_get_past}
 use Rattle.std.proofs.lemmas.Slice.Eq.{bytes_eq-Decides}

@@ -1,18 +1,17 @@
 -- What each step keeps: soundness, identifiers that are gone, and all other sessions.
-use Rattle.std.proofs.Common.{◌≡◌, ◌∙◌, ℕ, Bool, true, false, cond, ◌&&◌, ◌++◌, List, [], ◌∷◌, Option, Some, None, bytes_eq, nat_eq, nat_le, length, refl, sym, ap, subst, true≢false}
+use Rattle.std.proofs.Common.{◌≡◌, ◌∙◌, ℕ, Bool, true, false, cond, ◌&&◌, ◌++◌, List, [], ◌∷◌, Option, Some, None, nat_eq, nat_le, length, refl, sym, ap, true≢false}
 use Rattle.std.proofs.lemmas.Bool.{eqb-true}
 use Rattle.std.proofs.lemmas.Slice.Eq.{bytes_eq-Decides}
 use Rattle.std.specs.Map.{lookup}
 use Rattle.std.specs.Option.{unwrap_or}
 use Rattle.command_words.specs.declared.client.Client.{Client}
-use Rattle.command_words.specs.declared.identifier.Identifier.{Identifier}
 use Rattle.command_words.specs.declared.session_kind.SessionKind.{SessionKind}
 use Rattle.command_words.specs.declared.session_kind.SessionKind.TheVariants as kinds
 use Rattle.session_table.specs.Answers.{answer, create_reply, holder_of, unless_given, unless_named}
-use Rattle.session_table.specs.Creates.{has_same_roots, is_paused, kind_of, name_of}
-use Rattle.session_table.specs.Finding.{has_name, id_named, id_of_kind, if_of_kind, is_named, same_kind}
-use Rattle.session_table.specs.Laws.{AreDistinct, IsFoundById, IsGone, IsNamedAlone, IsSound, after_all, done_to, is_id, touched}
-use Rattle.session_table.specs.Machine.{altered, altered_by, asked_by, changed, created, created_by, done, kept_for, step, terminated, terminated_by, turned_away_for}
+use Rattle.session_table.specs.Creates.{has_same_roots, kind_of, name_of}
+use Rattle.session_table.specs.Finding.{has_name, id_named, id_of_kind, if_of_kind, same_kind}
+use Rattle.session_table.specs.Laws.{IsFoundById, IsGone, IsNamedAlone, IsSound, after_all, done_to, is_id, touched}
+use Rattle.session_table.specs.Machine.{altered_by, asked_by, changed, created, created_by, done, kept_for, step, terminated, terminated_by, turned_away_for}
 use Rattle.session_table.specs.Standings.{change_by, new_session, with_report, with_standing}
 use Rattle.session_table.specs.States.{IsCovered, Machine}
 use Rattle.session_table.specs.declared.change.Change.{Change}
@@ -23,7 +22,6 @@ use Rattle.session_table.specs.declared.op.TableOp.TheVariants.{Ask, Query, Wait
 use Rattle.session_table.specs.declared.refusal.TableRefusal.TheVariants.{SameRoot, TableFull}
 use Rattle.session_table.specs.declared.reply.CommandReply.{CommandReply}
 use Rattle.session_table.specs.declared.reply.CommandReply.TheVariants.{Created, Awaits, Ordered, Refused}
-use Rattle.session_table.specs.declared.reply.TableReply.TheVariants.{Command}
 use Rattle.session_table.specs.declared.request.TableRequest.{TableRequest}
 use Rattle.session_table.specs.declared.request.TableRequest.TheVariants.{Create as CreateSession, Flush, Pause, Resume, Reset, Terminate}
 use Rattle.session_table.specs.declared.session.Session.{Session}

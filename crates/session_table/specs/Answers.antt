@@ -1,10 +1,10 @@
 -- What the table answers to a command: the refusals in their order.
-use Rattle.std.specs.Prelude.{ℕ, Bool, true, false, cond, not, ◌&&◌, List, Option, Some, None, is_none, nat_eq, nat_lt, nat_le, length}
+use Rattle.std.specs.Prelude.{ℕ, cond, List, Option, Some, None, nat_eq, nat_lt, nat_le, length}
 use Rattle.std.specs.Map.{lookup}
 use Rattle.std.specs.Option.{unwrap_or}
 use Rattle.command_words.specs.declared.client.Client.{Client}
 use Rattle.command_words.specs.declared.session_kind.SessionKind.{SessionKind}
-use Rattle.command_words.specs.declared.session_kind.SessionKind.TheVariants.{Sync, Forward}
+use Rattle.command_words.specs.declared.session_kind.SessionKind.TheVariants.{Sync}
 use Rattle.mode_rules.specs.declared.halt.Halt.{Halt}
 use Rattle.session_control.specs.Control.{is_paused}
 use Rattle.session_control.specs.declared.standing.Standing.{Standing}

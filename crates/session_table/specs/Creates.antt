@@ -1,5 +1,5 @@
 -- What a session is made of.
-use Rattle.std.specs.Prelude.{ℕ, Bool, true, false, ◌&&◌, List, Option, Some, None, bytes_eq}
+use Rattle.std.specs.Prelude.{ℕ, Bool, false, List, Option, bytes_eq}
 use Rattle.command_words.specs.declared.session_kind.SessionKind.{SessionKind}
 use Rattle.command_words.specs.declared.session_kind.SessionKind.TheVariants as kinds
 use Rattle.session_table.specs.declared.create.Create.{Create}

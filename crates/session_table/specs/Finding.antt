@@ -9,7 +9,6 @@ use Rattle.command_words.specs.declared.session_kind.SessionKind.{SessionKind}
 use Rattle.command_words.specs.declared.session_kind.SessionKind.TheVariants.{Sync, Forward}
 use Rattle.session_control.specs.declared.standing.Standing.{Standing}
 use Rattle.session_table.specs.Creates.{kind_of, name_of}
-use Rattle.session_table.specs.declared.create.Create.{Create}
 use Rattle.session_table.specs.declared.client_row.ClientRow.{ClientRow}
 use Rattle.session_table.specs.declared.session.Session.{Session}
 

@@ -4,7 +4,7 @@ use Rattle.std.specs.Map.{lookup}
 use Rattle.command_words.specs.declared.client.Client.{Client}
 use Rattle.command_words.specs.declared.session.SessionWord.TheVariants.{Identified}
 use Rattle.command_words.specs.declared.session_kind.SessionKind.{SessionKind}
-use Rattle.session_table.specs.Answers.{answer, turned_away}
+use Rattle.session_table.specs.Answers.{turned_away}
 use Rattle.session_table.specs.Creates.{kind_of}
 use Rattle.session_table.specs.Finding.{client_named, id_by, id_named, is_named}
 use Rattle.session_table.specs.Machine.{step}

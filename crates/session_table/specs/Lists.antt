@@ -1,5 +1,5 @@
 -- What the table answers to questions.
-use Rattle.std.specs.Prelude.{ℕ, Bool, true, false, cond, ◌&&◌, ◌++◌, List, [], ◌∷◌, Option, Some, None, length, nat_eq, nat_lt, nat_le, bytes_eq, not}
+use Rattle.std.specs.Prelude.{ℕ, Bool, true, cond, ◌&&◌, ◌++◌, List, [], ◌∷◌, Option, Some, None, length, nat_eq, nat_lt, nat_le, bytes_eq}
 use Rattle.std.specs.Map.{lookup}
 use Rattle.std.specs.List.{list_any}
 use Rattle.command_words.specs.declared.label.Label.{Label}

@@ -5,7 +5,6 @@ use Rattle.std.specs.Map.{lookup, remove_entry}
 use Rattle.std.specs.Option.{option_map}
 use Rattle.command_words.specs.declared.client.Client.{Client}
 use Rattle.command_words.specs.declared.identifier.Identifier.{Identifier}
-use Rattle.mode_rules.specs.declared.report.CycleReport.{CycleReport}
 use Rattle.session_control.specs.declared.standing.Standing.{Standing}
 use Rattle.session_table.specs.Answers.{answer, turned_away}
 use Rattle.session_table.specs.Lists.{query_reply, wait_reply}
@@ -20,7 +19,7 @@ use Rattle.session_table.specs.declared.create.Create.{Create}
 use Rattle.session_table.specs.declared.op.TableOp.{TableOp}
 use Rattle.session_table.specs.declared.op.TableOp.TheVariants.{Ask, Query, Wait, Look, Begin, Ended}
 use Rattle.session_table.specs.declared.reply.CommandReply.{CommandReply}
-use Rattle.session_table.specs.declared.reply.CommandReply.TheVariants.{Created, Awaits, Ordered, Refused}
+use Rattle.session_table.specs.declared.reply.CommandReply.TheVariants.{Created, Awaits, Ordered}
 use Rattle.session_table.specs.declared.reply.TableReply.{TableReply}
 use Rattle.session_table.specs.declared.reply.TableReply.TheVariants.{Command, Looked, Begun, Noted, NoMemory}
 use Rattle.session_table.specs.declared.request.TableRequest.{TableRequest}

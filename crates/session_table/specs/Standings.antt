@@ -1,5 +1,5 @@
 -- How commands and cycles change a session's standing.
-use Rattle.std.specs.Prelude.{ℕ, ◌+◌, ◌-◌, ◌^◌, min, Bool, true, false, cond, Option, Some, None}
+use Rattle.std.specs.Prelude.{ℕ, ◌+◌, ◌-◌, ◌^◌, min, Bool, cond, Option, Some, None}
 use Rattle.mode_rules.specs.declared.halt.Halt.{Halt}
 use Rattle.mode_rules.specs.declared.report.Outcome.{Outcome}
 use Rattle.mode_rules.specs.declared.report.Outcome.TheVariants.{Halted}

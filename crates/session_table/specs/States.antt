@@ -1,5 +1,5 @@
 -- What the table is: a list of sessions, the identifiers that were ever given, the clients, and the run.
-use Rattle.std.specs.Prelude.{◌≡◌, ℕ, min, List, Option, None, nat_eq}
+use Rattle.std.specs.Prelude.{◌≡◌, ℕ, min, List, None, nat_eq}
 use Rattle.std.specs.Map.{lookup}
 use Rattle.command_words.specs.declared.session_kind.SessionKind.{SessionKind}
 use Rattle.session_table.specs.declared.client_row.ClientRow.{ClientRow}

@@ -1,7 +1,6 @@
 use Rattle.std.proofs.Common.{◌∙◌, sym, ap, nat_eq}
 use Rattle.std.specs.Map.{set_value}
 use Rattle.std.specs.Option.{option_copied_mut}
-use Rattle.session_table.specs.declared.session.Session.{Session}
 use Rattle.session_table.specs.declared.sessions.Sessions.TheInside.{Inside}
 use Rattle.session_table.specs.Machine.{changed}
 use Rattle.session_table.specs.Standings.{with_report}
