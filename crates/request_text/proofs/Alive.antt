@@ -1,15 +1,13 @@
 -- From each place of the reader some words lead to a whole request.
-use Rattle.std.proofs.Common.{◌≡◌, ℕ, ◌≤◌, ◌<◌, ◌-◌, ◌^◌, Bool, true, false, cond, not, ◌&&◌, List, [], ◌∷◌, ◌++◌, refl, sym, ap, ◌∙◌, Some, None, Option, codes, inl, inr, arith, lit<}
-use Rattle.std.specs.Prelude.{◌⊎◌, decimal, IsTrue}
+use Rattle.std.proofs.Common.{ℕ, Bool, true, ◌&&◌, List, [], ◌∷◌, refl, sym, ap, None, codes, inl, inr, lit<}
+use Rattle.std.specs.Prelude.{decimal}
 use Rattle.std.proofs.Math.Dec.{lit≤}
 use Rattle.std.proofs.lemmas.Fmt.{decimal_digit}
 use Rattle.std.proofs.lemmas.Str.{is_utf8-from_IsUtf8}
 use Rattle.sync_path.specs.Path.{IsPath}
 use Rattle.command_words.specs.Contents.{contents_word}
 use Rattle.command_words.specs.Endpoint.{IsEndpoint}
-use Rattle.command_words.specs.GivenName.{IsGivenName}
 use Rattle.command_words.specs.RootName.{has_root_name_form, IsRootName}
-use Rattle.command_words.specs.Session.{IsSession}
 use Rattle.command_words.specs.declared.session.SessionWord.{SessionWord}
 use Rattle.command_words.specs.declared.session.SessionWord.TheVariants as sessions
 use Rattle.command_words.specs.declared.stream_side.StreamSide.TheVariants.{Near}

@@ -1,11 +1,10 @@
 -- Words that may be one thing or another: an option or a root, an option or an endpoint.
-use Rattle.std.proofs.Common.{◌≡◌, ◌↔◌, ℕ, Bool, true, false, cond, not, ◌&&◌, List, [], ◌∷◌, ◌++◌, refl, sym, ap, subst, ◌∙◌, Some, None, Option, codes, inl, inr}
+use Rattle.std.proofs.Common.{◌≡◌, ◌↔◌, ℕ, true, false, not, List, ◌∷◌, ◌++◌, refl, sym, ap, ◌∙◌, Some, None, Option, codes, inl, inr}
 use Rattle.std.specs.Prelude.{◌⊎◌, nat_eq}
 use Rattle.std.specs.List.{starts_with}
 use Rattle.std.specs.Str.{is_utf8}
 use Rattle.std.proofs.lemmas.Bool.{and_parts}
-use Rattle.command_words.specs.Endpoint.{IsEndpoint}
-use Rattle.command_words.specs.RootName.{has_root_name_form, has_root_name_len, IsRootName}
+use Rattle.command_words.specs.RootName.{has_root_name_form, has_root_name_len}
 use Rattle.request_text.specs.Given.{with_forward_setting, with_setting}
 use Rattle.request_text.specs.Places.{IsEndpointOf, IsForwardOption, IsRoot, IsSettingOf, IsSyncOption, Steps}
 use Rattle.request_text.specs.Settings.{setting_word}

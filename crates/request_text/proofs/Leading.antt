@@ -1,5 +1,5 @@
 -- Where the words that were found lead.
-use Rattle.std.proofs.Common.{◌≡◌, ◌↔◌, ℕ, List, ◌∷◌, refl, sym, ap, ap₂, subst, ◌∙◌, Some, None, Option, codes}
+use Rattle.std.proofs.Common.{◌≡◌, ◌↔◌, sym, ap, ◌∙◌, Some, None, Option}
 use Rattle.request_text.specs.Places.{Gives, Steps, Via}
 use Rattle.request_text.specs.declared.place.Place.{Place}
 

@@ -1,11 +1,11 @@
 -- The steps of the reader of a line.
-use Rattle.std.proofs.Common.{◌≡◌, ◌↔◌, ℕ, ◌≤◌, ◌-◌, ◌^◌, Bool, true, false, List, [], ◌∷◌, refl, sym, ap, subst, ◌∙◌, Some, None, Option, codes, inl, inr}
-use Rattle.std.specs.Prelude.{◌⊎◌, decimal}
+use Rattle.std.proofs.Common.{◌≡◌, ◌↔◌, ℕ, ◌≤◌, ◌-◌, ◌^◌, Bool, false, List, ◌∷◌, sym, ap, subst, ◌∙◌, Some, None, Option, inl, inr}
+use Rattle.std.specs.Prelude.{decimal}
 use Rattle.command_words.specs.GivenName.{is_given_name, IsGivenName}
 use Rattle.command_words.specs.Kept.{kept}
 use Rattle.command_words.proofs.LabelWords.{kept_not, kept_some}
 use Rattle.request_text.specs.Places.{Ends, Goes, Steps}
-use Rattle.request_text.specs.States.{GoesOn, LineGoes, LineSteps, NamesClient, NumbersLine, whole_of}
+use Rattle.request_text.specs.States.{GoesOn, LineGoes, LineSteps, NumbersLine, whole_of}
 use Rattle.request_text.specs.declared.place.First.{First}
 use Rattle.request_text.specs.declared.place.Place.{Place}
 use Rattle.request_text.specs.declared.place.Place.TheVariants as at

@@ -1,5 +1,5 @@
 -- Whole lines: what the reader of a line reads is its grammar, and where it stops none goes on.
-use Rattle.std.proofs.Common.{◌≡◌, ◌↔◌, ℕ, ◌≤◌, ◌-◌, ◌^◌, Bool, true, false, cond, not, ◌&&◌, List, [], ◌∷◌, ◌++◌, map, length, refl, sym, ap, ap₂, subst, ◌∙◌, append_assoc, Some, None, Option, Result, Ok, Err, codes, inl, inr}
+use Rattle.std.proofs.Common.{◌≡◌, ℕ, Bool, true, false, not, ◌&&◌, List, [], ◌∷◌, ◌++◌, map, refl, sym, ap, ap₂, subst, ◌∙◌, append_assoc, Some, None, Option, Result, Ok, Err, codes, inl, inr}
 use Rattle.std.specs.Prelude.{◌⊎◌, decimal, is_some, IfOk}
 use Rattle.std.proofs.Math.Dec.{lit≤}
 use Rattle.std.proofs.lemmas.List.{append-nil}
@@ -7,19 +7,17 @@ use Rattle.line_words.specs.Lines.{HasWords, Item}
 use Rattle.command_words.specs.GivenName.{IsGivenName}
 use Rattle.command_words.specs.declared.client.Client.{Client}
 use Rattle.request_text.specs.Grammar.{Begins, IsBadLine, may_name_client, MayAsk, NoneGoesOn, Spells, SpellsLine, StopsAt}
-use Rattle.request_text.specs.Places.{Ends, Goes}
+use Rattle.request_text.specs.Places.{Ends}
 use Rattle.request_text.specs.Requests.{IsClient, IsRequest}
-use Rattle.request_text.specs.States.{Along, Answers, Finishes, GoesOn, IsRead, LineEnds, LineGoes, LineSteps, NamesClient, NumbersLine}
+use Rattle.request_text.specs.States.{Along, Answers, Finishes, IsRead, LineEnds, LineGoes, LineSteps}
 use Rattle.request_text.specs.Words.{client_words}
 use Rattle.request_text.specs.declared.asked.Asked.{Asked}
-use Rattle.request_text.specs.declared.line_error.BadLine.{BadLine}
 use Rattle.request_text.specs.declared.line_error.LineError.{LineError}
 use Rattle.request_text.specs.declared.line_error.LineError.TheVariants.{Bad, Memory}
 use Rattle.request_text.specs.declared.place.First.TheVariants as first
 use Rattle.request_text.specs.declared.place.Place.{Place}
 use Rattle.request_text.specs.declared.place.Place.TheVariants as at
 use Rattle.request_text.specs.declared.request.Request.{Request}
-use Rattle.request_text.specs.declared.request.Request.TheVariants as requests
 use Rattle.request_text.specs.declared.state.State.{State}
 use Rattle.request_text.specs.declared.state.State.TheVariants.{Start, Named, Behind}
 use Rattle.request_text.proofs.Alive.{alive}

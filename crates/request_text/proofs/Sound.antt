@@ -1,42 +1,34 @@
 -- What the reader has read is spelt so: each step adds a word of the grammar.
-use Rattle.std.proofs.Common.{◌≡◌, ℕ, ◌≤◌, ◌-◌, ◌^◌, Bool, true, false, cond, not, ◌&&◌, List, [], ◌∷◌, ◌++◌, map, length, refl, sym, ap, ap₂, subst, ◌∙◌, append_assoc, Some, None, Option, codes, inl, inr}
-use Rattle.std.specs.Prelude.{◌⊎◌, decimal, is_some}
+use Rattle.std.proofs.Common.{◌≡◌, ℕ, ◌≤◌, ◌-◌, ◌^◌, Bool, true, false, not, ◌&&◌, List, [], ◌∷◌, ◌++◌, refl, sym, ap, ap₂, subst, ◌∙◌, append_assoc, Some, None, Option, codes, inl, inr}
+use Rattle.std.specs.Prelude.{decimal}
 use Rattle.std.specs.Option.{option_and_then}
-use Rattle.std.proofs.lemmas.List.{append-nil}
-use Rattle.line_words.specs.Numbers.{byte_value}
 use Rattle.command_words.specs.Endpoint.{IsEndpoint}
-use Rattle.command_words.specs.GivenName.{IsGivenName}
-use Rattle.command_words.specs.Keywords.{phase_by, stream_side_by, stream_side_word, switch_by}
+use Rattle.command_words.specs.Keywords.{stream_side_word}
 use Rattle.command_words.specs.RootName.{IsRootName}
 use Rattle.command_words.specs.Session.{IsSession, session_word}
 use Rattle.command_words.specs.declared.session.SessionWord.{SessionWord}
 use Rattle.command_words.proofs.KeywordWords.{one_phase, one_stream_side, one_switch}
-use Rattle.entry_tree.specs.PathWord.{path_word}
-use Rattle.request_text.specs.Given.{AreSettings, forward_create, GiveForward, GiveSync, no_forward_options, no_sync_options, sync_create, with_forward_setting, with_forward_settings, with_setting, with_settings}
+use Rattle.request_text.specs.Given.{AreSettings, forward_create, no_forward_options, no_sync_options, sync_create, with_forward_setting, with_forward_settings, with_setting, with_settings}
 use Rattle.request_text.specs.Grammar.{may_name_client, Spells}
 use Rattle.request_text.specs.Orders.{forward_order_word, sync_order_word}
-use Rattle.request_text.specs.Places.{by, conn_place, conn_verbs, edit_place, edit_verbs, first_may, first_words, fits, forward_may, forward_place, forward_verbs, Gives, Goes, IsForwardOption, IsSyncOption, stream_place, sync_may, sync_place, sync_verbs, Via}
+use Rattle.request_text.specs.Places.{by, conn_place, first_may, first_words, forward_may, forward_place, forward_verbs, Goes, IsForwardOption, IsSyncOption, sync_may, sync_place, sync_verbs}
 use Rattle.request_text.specs.Requests.{IsEnd, IsRequest, IsTarget, IsWithin}
 use Rattle.request_text.specs.Settings.{IsSetting, setting_word, setting_words}
-use Rattle.request_text.specs.Words.{edit_words, stream_words, words_of}
-use Rattle.request_text.specs.declared.limits.TheConstants.{MAX_FILL_LEN, MAX_READ, MAX_STEP_COUNT, MAX_STREAM_FILL_LEN}
+use Rattle.request_text.specs.Words.{edit_words, stream_words}
+use Rattle.request_text.specs.declared.limits.TheConstants.{MAX_FILL_LEN, MAX_STREAM_FILL_LEN}
 use Rattle.request_text.specs.declared.options.ForwardOptions.{ForwardOptions}
 use Rattle.request_text.specs.declared.options.SyncOptions.{SyncOptions}
 use Rattle.request_text.specs.declared.place.ConnVerb.{ConnVerb}
 use Rattle.request_text.specs.declared.place.ConnVerb.TheVariants as conn
-use Rattle.request_text.specs.declared.place.EditVerb.{EditVerb}
 use Rattle.request_text.specs.declared.place.EditVerb.TheVariants as edit
-use Rattle.request_text.specs.declared.place.First.{First}
 use Rattle.request_text.specs.declared.place.First.TheVariants as first
 use Rattle.request_text.specs.declared.place.ForwardVerb.{ForwardVerb}
 use Rattle.request_text.specs.declared.place.ForwardVerb.TheVariants as forward
 use Rattle.request_text.specs.declared.place.Place.{Place}
 use Rattle.request_text.specs.declared.place.Place.TheVariants as at
-use Rattle.request_text.specs.declared.place.StreamVerb.{StreamVerb}
 use Rattle.request_text.specs.declared.place.StreamVerb.TheVariants as stream
 use Rattle.request_text.specs.declared.place.SyncVerb.{SyncVerb}
 use Rattle.request_text.specs.declared.place.SyncVerb.TheVariants as sync
-use Rattle.request_text.specs.declared.request.Request.{Request}
 use Rattle.request_text.specs.declared.request.Request.TheVariants as requests
 use Rattle.request_text.specs.declared.setting.Setting.{Setting}
 use Rattle.request_text.proofs.Tables.{conn_is, conn_word, edit_is, edit_word, first_is, first_word, fitting, forward_is, forward_word, stream_word, sync_is, sync_word}

@@ -1,23 +1,16 @@
 -- Each spelling of a request is read: its words lead to the request, step by step.
-use Rattle.std.proofs.Common.{◌≡◌, ℕ, ◌≤◌, ◌-◌, ◌^◌, Bool, true, false, cond, not, ◌&&◌, List, [], ◌∷◌, ◌++◌, map, length, refl, sym, ap, ap₂, subst, ◌∙◌, append_assoc, Some, None, Option, codes, inl, inr}
-use Rattle.std.specs.Prelude.{◌⊎◌, decimal, is_some}
+use Rattle.std.proofs.Common.{◌≡◌, ℕ, Bool, true, false, not, ◌&&◌, List, [], ◌∷◌, ◌++◌, refl, sym, ap, subst, ◌∙◌, Some, None, Option, codes, inl, inr}
+use Rattle.std.specs.Prelude.{decimal}
 use Rattle.std.specs.Option.{option_and_then}
-use Rattle.std.proofs.lemmas.List.{append-nil}
-use Rattle.line_words.specs.Numbers.{byte_value}
-use Rattle.command_words.specs.Endpoint.{IsEndpoint}
-use Rattle.command_words.specs.GivenName.{IsGivenName}
 use Rattle.command_words.specs.Contents.{contents_word}
-use Rattle.command_words.specs.Keywords.{phase_by, phase_word, stream_side_by, stream_side_word, switch_by, switch_word}
-use Rattle.command_words.specs.RootName.{IsRootName}
+use Rattle.command_words.specs.Keywords.{phase_word, stream_side_word, switch_word}
 use Rattle.command_words.specs.Session.{IsSession, session_word}
 use Rattle.command_words.specs.declared.session.SessionWord.{SessionWord}
 use Rattle.command_words.proofs.KeywordWords.{one_phase, one_stream_side, one_switch}
-use Rattle.entry_tree.specs.PathWord.{path_word}
 use Rattle.request_text.specs.Orders.{forward_order_word, sync_order_word}
-use Rattle.request_text.specs.Requests.{IsEnd, IsRequest, IsTarget, IsWithin}
-use Rattle.request_text.specs.Settings.{IsSetting, setting_word, setting_words}
+use Rattle.request_text.specs.Requests.{IsEnd, IsRequest, IsTarget}
+use Rattle.request_text.specs.Settings.{setting_word, setting_words}
 use Rattle.request_text.specs.Words.{edit_words, label_words, stream_words, words_of}
-use Rattle.request_text.specs.declared.limits.TheConstants.{MAX_FILL_LEN, MAX_READ, MAX_STEP_COUNT, MAX_STREAM_FILL_LEN}
 use Rattle.request_text.specs.declared.options.ForwardOptions.{ForwardOptions}
 use Rattle.request_text.specs.declared.options.SyncOptions.{SyncOptions}
 use Rattle.request_text.specs.declared.order.ForwardOrder.{ForwardOrder}
@@ -43,9 +36,9 @@ use Rattle.request_text.specs.declared.place.SyncVerb.TheVariants as sync
 use Rattle.request_text.specs.declared.request.Request.{Request}
 use Rattle.request_text.specs.declared.request.Request.TheVariants as requests
 use Rattle.request_text.specs.declared.setting.Setting.{Setting}
-use Rattle.request_text.specs.Given.{AreSettings, forward_create, GiveForward, GiveSync, no_forward_options, no_sync_options, sync_create, with_forward_setting, with_forward_settings, with_setting, with_settings}
+use Rattle.request_text.specs.Given.{AreSettings, forward_create, no_forward_options, no_sync_options, sync_create, with_forward_setting, with_forward_settings, with_setting, with_settings}
 use Rattle.request_text.specs.Grammar.{may_name_client, Spells}
-use Rattle.request_text.specs.Places.{by, conn_place, conn_verbs, edit_place, edit_verbs, Ends, first_may, first_words, fits, forward_may, forward_place, forward_verbs, Gives, Goes, IsForwardOption, IsSyncOption, stream_place, sync_may, sync_place, sync_verbs, Via}
+use Rattle.request_text.specs.Places.{by, conn_place, conn_verbs, edit_place, edit_verbs, Ends, first_may, first_words, fits, forward_may, forward_place, forward_verbs, Goes, stream_place, sync_may, sync_place, sync_verbs}
 use Rattle.request_text.proofs.Tables.{conn_word, edit_word, first_word, fit, forward_word, stream_word, sync_word}
 
 -- the words lead from a place to a whole request

@@ -19,7 +19,7 @@ use Rattle.command_words.specs.Kept.{kept}
 use Rattle.command_words.specs.declared.label.Label.{Label}
 use Rattle.command_words.proofs.LabelWords.{kept_some}
 use Rattle.request_text.specs.Places.{IsLabelOption, IsLink, IsPathOf, IsSettingOf}
-use Rattle.request_text.specs.SettingWords.{kind_by, kind_of, kind_prefix, label_in, value_of}
+use Rattle.request_text.specs.SettingWords.{kind_by, kind_of, kind_prefix, label_in}
 use Rattle.request_text.specs.Settings.{setting_word}
 use Rattle.request_text.specs.declared.setting.Setting.{Setting}
 use Rattle.request_text.specs.declared.setting.Setting.TheVariants.{Name, Labelled, InMode, IgnoreVcs, Ignore, Paused, Entries, Size}

@@ -1,8 +1,7 @@
 -- The options that a line gives, in any order, and what they make of a new session.
-use Rattle.std.specs.Prelude.{◌≡◌, ℕ, Bool, is_none, true, false, ◌+◌, cond, nat_lt, List, [], ◌∷◌, ◌++◌, length, Option, Some, None}
+use Rattle.std.specs.Prelude.{◌≡◌, ℕ, is_none, true, false, cond, nat_lt, List, [], ◌∷◌, ◌++◌, length, Option, Some, None}
 use Rattle.std.specs.Option.{option_and_then}
 use Rattle.command_words.specs.Labels.{can_take, with_label}
-use Rattle.mode_rules.specs.declared.mode.Mode.{Mode}
 use Rattle.mode_rules.specs.declared.mode.Mode.TheVariants.{TwoWaySafe}
 use Rattle.request_text.specs.Settings.{IsSetting}
 use Rattle.request_text.specs.declared.create.ForwardCreate.{ForwardCreate}

@@ -1,5 +1,5 @@
 -- Which words spell a request, and where the words of a line go wrong.
-use Rattle.std.specs.Prelude.{◌≡◌, ℕ, Bool, true, false, IsTrue, List, [], ◌∷◌, ◌++◌, codes, decimal, length, Option, Some, None}
+use Rattle.std.specs.Prelude.{◌≡◌, ℕ, Bool, true, false, IsTrue, List, [], ◌∷◌, ◌++◌, codes, decimal, Option, Some, None}
 use Rattle.line_words.specs.Lines.{HasWords, Item}
 use Rattle.line_words.specs.Numbers.{byte_value}
 use Rattle.command_words.specs.declared.client.Client.{Client}

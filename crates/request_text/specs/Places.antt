@@ -37,8 +37,6 @@ use Rattle.request_text.specs.declared.place.SyncVerb.TheVariants as sync
 use Rattle.request_text.specs.declared.request.Request.{Request}
 use Rattle.request_text.specs.declared.request.Request.TheVariants as requests
 use Rattle.request_text.specs.declared.setting.Setting.{Setting}
-use Rattle.request_text.specs.declared.stream_end.StreamEnd.{StreamEnd}
-use Rattle.request_text.specs.declared.target.Target.{Target}
 
 -- ---- tables of words
 

@@ -1,16 +1,13 @@
 -- What the types of a request keep: only what a line can spell.
-use Rattle.std.specs.Prelude.{ℕ, ◌<◌, ◌≤◌, ◌-◌, ◌^◌, List, length, Option, Some, None, OnSome, IfSome}
+use Rattle.std.specs.Prelude.{ℕ, ◌<◌, ◌≤◌, ◌-◌, ◌^◌, length, IfSome}
 use Rattle.command_words.specs.Endpoint.{IsEndpoint}
 use Rattle.command_words.specs.GivenName.{IsGivenName}
 use Rattle.command_words.specs.Label.{IsLabel}
 use Rattle.command_words.specs.RootName.{IsRootName}
 use Rattle.command_words.specs.Session.{IsSession}
 use Rattle.command_words.specs.declared.client.Client.{Client}
-use Rattle.command_words.specs.declared.label.Label.{Label}
-use Rattle.command_words.specs.declared.session.SessionWord.{SessionWord}
 use Rattle.entry_tree.specs.Text.{IsText}
 use Rattle.sync_path.specs.Path.{IsPath}
-use Rattle.request_text.specs.declared.asked.Asked.{Asked}
 use Rattle.request_text.specs.declared.limits.TheConstants.{MAX_FILL_LEN, MAX_READ, MAX_STEP_COUNT, MAX_STREAM_FILL_LEN}
 use Rattle.request_text.specs.declared.request.Request.{Request}
 use Rattle.request_text.specs.declared.request.Request.TheVariants.{Put, Fill, Link, Dir, Other, Exec, Del, Show, Ancestor, Step, Until, SyncCreate, SyncList, SyncFlush, SyncFlushSkipWait, SyncOrder, SyncReport, ForwardCreate, ForwardList, ForwardOrder, Open, Write, StreamFill, Read, CloseWrite, Close, Move, Cut}

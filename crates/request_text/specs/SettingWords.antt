@@ -1,5 +1,5 @@
 -- How the word of an option is cut: which option it is, and its value.
-use Rattle.std.specs.Prelude.{ℕ, cond, nat_eq, List, [], ◌++◌, codes, decimal, Option, Some, None}
+use Rattle.std.specs.Prelude.{ℕ, cond, nat_eq, List, [], codes, decimal, Option, Some, None}
 use Rattle.std.specs.List.{starts_with}
 use Rattle.command_words.specs.Keywords.{mode_word}
 use Rattle.command_words.specs.Label.{label_word}

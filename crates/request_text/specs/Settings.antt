@@ -1,7 +1,6 @@
 -- The options of lines that create a session.
 use Rattle.std.specs.Prelude.{ℕ, ◌≤◌, Bool, true, false, ◌==◌, cond, IsTrue, List, [], ◌∷◌, ◌++◌, codes, map, decimal, Option, Some, None}
 use Rattle.std.specs.Str.{is_utf8}
-use Rattle.line_words.specs.Lines.{AreBytes}
 use Rattle.command_words.specs.GivenName.{IsGivenName}
 use Rattle.command_words.specs.Keywords.{mode_word}
 use Rattle.command_words.specs.Label.{IsLabel, label_word}

@@ -1,11 +1,10 @@
 -- The reader of a whole line.
-use Rattle.std.specs.Prelude.{◌≡◌, ◌⊎◌, ◌↔◌, ℕ, ◌≤◌, ◌-◌, ◌^◌, Bool, true, false, List, [], ◌∷◌, ◌++◌, is_some, decimal, Option, Some, None, Result, Ok, Err}
+use Rattle.std.specs.Prelude.{◌≡◌, ◌⊎◌, ◌↔◌, ℕ, ◌≤◌, ◌-◌, ◌^◌, Bool, false, List, [], ◌∷◌, ◌++◌, is_some, decimal, Option, Some, None, Result, Ok, Err}
 use Rattle.line_words.specs.Lines.{HasWords, Item}
 use Rattle.command_words.specs.GivenName.{IsGivenName}
 use Rattle.request_text.specs.Grammar.{IsBadLine, SpellsLine}
 use Rattle.request_text.specs.Places.{Ends, Goes}
 use Rattle.request_text.specs.declared.asked.Asked.{Asked}
-use Rattle.request_text.specs.declared.line_error.BadLine.{BadLine}
 use Rattle.request_text.specs.declared.line_error.LineError.{LineError}
 use Rattle.request_text.specs.declared.line_error.LineError.TheVariants.{Bad, Memory}
 use Rattle.request_text.specs.declared.place.Place.{Place}

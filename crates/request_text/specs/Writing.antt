@@ -2,7 +2,6 @@
 use Rattle.std.specs.Prelude.{ℕ, List, [], ◌∷◌, ◌++◌, decimal, Option, Some, None}
 use Rattle.line_words.specs.Spelling.{space, written}
 use Rattle.command_words.specs.declared.client.Client.{Client}
-use Rattle.request_text.specs.Words.{client_words}
 
 -- a client with its number, and a space behind them
 abbrev pub client_lead : Option Client → List ℕ

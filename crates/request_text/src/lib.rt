@@ -10,7 +10,8 @@
 //! let line = write_request(alloc, &asked)?; // `@c 7 sync flush s`
 //! ```
 //!
-//! The test `each_freedom_is_read_and_each_place_told` makes these calls.
+//! The test `each_freedom_is_read_and_each_place_told` makes these calls. [`Setting`], [`SyncOptions`] and [`ForwardOptions`] are public
+//! because `specs/Given.antt`, by which a reader of a law goes, speaks of them; no call takes or gives them.
 //!
 //! A new line is a row of `words_of`, a variant of [`Request`], and a place of the reader for each word that isn't read yet
 //! (`place.rt`, with its row of `Goes` in `specs/Places.antt`).
@@ -47,10 +48,12 @@ pub use limits::{
     MAX_ENTRY_LIMIT, MAX_FILL_LEN, MAX_READ, MAX_SIZE_LIMIT, MAX_STEP_COUNT, MAX_STREAM_FILL_LEN,
 };
 pub use line_error::{BadLine, LineError};
+pub use options::{ForwardOptions, SyncOptions};
 pub use order::{ForwardOrder, SyncOrder};
 pub use patterns::{MAX_PATTERNS, Patterns};
 pub use read::read_request;
 pub use request::Request;
+pub use setting::Setting;
 pub use skipped::is_skipped;
 pub use stream_end::StreamEnd;
 pub use target::Target;

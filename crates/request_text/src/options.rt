@@ -17,7 +17,7 @@ use std::alloc::{AllocError, Global};
 
 /// The options of a new synchronisation session that were given so far, each at most once.
 #[derive(Debug, Drop)]
-pub(crate) struct SyncOptions {
+pub struct SyncOptions {
     pub name: Option<GivenName>,
     pub labels: Labels,
     pub mode: Option<Mode>,
@@ -30,7 +30,7 @@ pub(crate) struct SyncOptions {
 
 /// The options of a new forwarding session that were given so far, each at most once.
 #[derive(Debug, Drop)]
-pub(crate) struct ForwardOptions {
+pub struct ForwardOptions {
     pub name: Option<GivenName>,
     pub paused: bool,
 }

@@ -5,7 +5,7 @@ use mode_rules::Mode;
 
 /// An option of a line that creates a session.
 #[derive(Debug, Drop)]
-pub(crate) enum Setting {
+pub enum Setting {
     /// `--name=NAME`
     Name(GivenName),
     /// `--label=KEY=VALUE`

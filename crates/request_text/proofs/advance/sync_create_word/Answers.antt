@@ -1,4 +1,4 @@
-use Rattle.std.proofs.Common.{◌≡◌, true, codes, rules, ℕ, List, false}
+use Rattle.std.proofs.Common.{◌≡◌, true, codes, rules, ℕ, List}
 use Rattle.std.specs.Prelude.{nat_eq}
 use Rattle.std.specs.List.{starts_with}
 use Rattle.std.proofs.lemmas.Result.{IfOk-weaker}

@@ -1,4 +1,4 @@
-use Rattle.std.proofs.Common.{Some, ◌≡◌, ◌↔◌, subst, None, Option}
+use Rattle.std.proofs.Common.{Some, ◌≡◌, ◌↔◌, subst, Option}
 use Rattle.request_text.specs.Places.{IsSettingOf}
 use Rattle.request_text.specs.declared.setting.Setting.{Setting}
 use Rattle.request_text.proofs.WordKinds.{label_none, label_read}

@@ -1,4 +1,4 @@
-use Rattle.std.proofs.Common.{subst, sym, ◌≡◌}
+use Rattle.std.proofs.Common.{subst}
 use Rattle.std.specs.Prelude.{is_some}
 use Rattle.request_text.specs.Places.{Goes, Steps}
 use Rattle.request_text.specs.declared.state.State.TheVariants.{Behind}

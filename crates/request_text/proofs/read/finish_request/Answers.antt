@@ -1,4 +1,4 @@
-use Rattle.std.proofs.Common.{◌≡◌, ◌∙◌, refl, sym, Some, None}
+use Rattle.std.proofs.Common.{◌∙◌, refl, sym}
 use Rattle.request_text.proofs.LineSteps.{ends_not, ends_whole}
 use Rattle.request_text.proofs.read.finish_request.Goals as goal
 

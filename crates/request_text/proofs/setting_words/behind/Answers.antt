@@ -1,4 +1,4 @@
-use Rattle.std.proofs.Common.{◌≡◌, ◌≤◌, ◌∙◌, ◌++◌, drop, length, ap, subst, sym}
+use Rattle.std.proofs.Common.{◌≤◌, ◌∙◌, ◌++◌, drop, length, ap, subst, sym}
 use Rattle.request_text.specs.SettingWords.{kind_prefix}
 use Rattle.request_text.proofs.WordKinds.{cut_behind, fits_in}
 use Rattle.request_text.proofs.setting_words.behind.Goals as goal

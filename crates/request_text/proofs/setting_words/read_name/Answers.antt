@@ -1,6 +1,4 @@
-use Rattle.std.proofs.Common.{◌≡◌, ◌∙◌, sym, Some}
-use Rattle.command_words.specs.GivenName.{is_given_name}
-use Rattle.command_words.specs.Kept.{kept}
+use Rattle.std.proofs.Common.{◌∙◌, sym}
 use Rattle.request_text.proofs.WordKinds.{name_read}
 use Rattle.request_text.proofs.setting_words.read_name.Goals as goal
 
