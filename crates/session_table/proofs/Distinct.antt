@@ -6,7 +6,7 @@ use Rattle.std.specs.Option.{unwrap_or}
 use Rattle.command_words.specs.declared.session_kind.SessionKind.{SessionKind}
 use Rattle.session_table.specs.Creates.{kind_of, name_of}
 use Rattle.session_table.specs.Finding.{has_name, id_named, is_named, same_kind}
-use Rattle.session_table.specs.Laws.{AreDistinct, IsNamedAlone}
+use Rattle.session_table.specs.Distinct.{AreDistinct, IsNamedAlone}
 use Rattle.session_table.specs.Machine.{changed}
 use Rattle.session_table.specs.declared.session.Row.{Row}
 use Rattle.session_table.specs.declared.session.Session.{Session}

@@ -30,9 +30,9 @@ none_beside true x y was now h next = absurd (some_is_not_none h)
 none_beside false x y was now h next = next h
 
 module _ {X : Type 0} where
-  module _ (test : ℕ → Bool) where
+  module _ {K : Type 0} (test : K → Bool) where
     -- behind a new last entry
-    pub lookup_push : (es : List (ℕ × X)) (e : ℕ × X) → lookup test es ≡ None → lookup test (es ++ e ∷ []) ≡ cond (test e.0) (Some e.1) None
+    pub lookup_push : (es : List (K × X)) (e : K × X) → lookup test es ≡ None → lookup test (es ++ e ∷ []) ≡ cond (test e.0) (Some e.1) None
     lookup_push [] e h = refl
     lookup_push (d ∷ es) e h = by (test d.0) h (lookup_push es e)
       where
@@ -42,12 +42,12 @@ module _ {X : Type 0} where
         by false h rest = rest h
 
     -- a new last entry that doesn't pass is not found
-    pub lookup_past : (es : List (ℕ × X)) (e : ℕ × X) → test e.0 ≡ false → lookup test (es ++ e ∷ []) ≡ lookup test es
+    pub lookup_past : (es : List (K × X)) (e : K × X) → test e.0 ≡ false → lookup test (es ++ e ∷ []) ≡ lookup test es
     lookup_past [] e h = ap (λ b. cond b (Some e.1) None) h
     lookup_past (d ∷ es) e h = ap (λ o. cond (test d.0) (Some d.1) o) (lookup_past es e h)
 
     -- what was found is found behind a new last entry too
-    pub lookup_stays : (es : List (ℕ × X)) (e : ℕ × X) (x : X) → lookup test es ≡ Some x → lookup test (es ++ e ∷ []) ≡ Some x
+    pub lookup_stays : (es : List (K × X)) (e : K × X) (x : X) → lookup test es ≡ Some x → lookup test (es ++ e ∷ []) ≡ Some x
     lookup_stays [] e x h = absurd (some_is_not_none (sym h))
     lookup_stays (d ∷ es) e x h = by (test d.0) h (lookup_stays es e x)
       where
@@ -56,7 +56,7 @@ module _ {X : Type 0} where
         by false h rest = rest h
 
     -- nothing is found where an entry was taken away, if nothing was
-    pub lookup_removed_none : (gone : ℕ → Bool) (es : List (ℕ × X)) → lookup test es ≡ None → lookup test (remove_entry gone es) ≡ None
+    pub lookup_removed_none : (gone : K → Bool) (es : List (K × X)) → lookup test es ≡ None → lookup test (remove_entry gone es) ≡ None
     lookup_removed_none gone [] h = refl
     lookup_removed_none gone (d ∷ es) h = by (gone d.0) (test d.0) h (lookup_removed_none gone es)
       where

@@ -9,8 +9,9 @@ use Rattle.command_words.specs.declared.session_kind.SessionKind.{SessionKind}
 use Rattle.command_words.specs.declared.session_kind.SessionKind.TheVariants as kinds
 use Rattle.session_table.specs.Answers.{answer, create_reply, holder_of, unless_given, unless_named}
 use Rattle.session_table.specs.Creates.{has_same_roots, kind_of, name_of}
+use Rattle.session_table.specs.Distinct.{IsNamedAlone}
 use Rattle.session_table.specs.Finding.{has_name, id_named, id_of_kind, if_of_kind, same_kind}
-use Rattle.session_table.specs.Laws.{IsFoundById, IsGone, IsNamedAlone, IsSound, after_all, done_to, is_id, touched}
+use Rattle.session_table.specs.Laws.{IsFoundById, IsGone, IsSound, after_all, done_to, is_id, touched}
 use Rattle.session_table.specs.Machine.{altered_by, asked_by, changed, created, created_by, done, kept_for, step, terminated, terminated_by, turned_away_for}
 use Rattle.session_table.specs.Standings.{change_by, new_session, with_report, with_standing}
 use Rattle.session_table.specs.States.{IsCovered, Machine}
@@ -92,7 +93,7 @@ same_kinds kinds.Forward kinds.Sync h = absurd (true≢false (sym h))
 same_kinds kinds.Forward kinds.Forward h = refl
 
 -- the name of a new session is new where no session of its kind has it
-new_name : (c : Create) (es : List (ℕ × Session)) (id : ℕ) → holder_of (kind_of c) (name_of c) es ≡ None → IsNamedAlone (new_session id c) es
+pub new_name : (c : Create) (es : List (ℕ × Session)) (id : ℕ) → holder_of (kind_of c) (name_of c) es ≡ None → IsNamedAlone (new_session id c) es
 new_name c es id none kind name named = by (same_kind kind (kind_of c)) refl (name_of c) refl named
   where
     by : (b : Bool) → same_kind kind (kind_of c) ≡ b → (o : Option (List ℕ)) → name_of c ≡ o → b && has_name name o ≡ true → id_named kind name es ≡ None
@@ -105,7 +106,7 @@ new_name c es id none kind name named = by (same_kind kind (kind_of c)) refl (na
         ∙ none
 
 -- where a list with a new last entry has none, neither has the list, and the entry isn't it
-covered_push : (given : List (ℕ × SessionKind)) (live : List (ℕ × Session)) (id : ℕ) (kind : SessionKind) (s : Session) → IsCovered given live → IsCovered (given ++ (id, kind) ∷ []) (live ++ (id, s) ∷ [])
+pub covered_push : (given : List (ℕ × SessionKind)) (live : List (ℕ × Session)) (id : ℕ) (kind : SessionKind) (s : Session) → IsCovered given live → IsCovered (given ++ (id, kind) ∷ []) (live ++ (id, s) ∷ [])
 covered_push given live id kind s covered q h = by (lookup (nat_eq q) given) refl
   where
     by : (o : Option SessionKind) → lookup (nat_eq q) given ≡ o → lookup (nat_eq q) (live ++ (id, s) ∷ []) ≡ None
@@ -209,7 +210,7 @@ others_stay (Look at) m id h = refl
 others_stay (Begin at) m id h = lookup_changed at id (with_standing (change_by changes.Begin)) m.live h
 others_stay (Ended at report) m id h = lookup_changed at id (with_report report) m.live h
 
-same_kind_itself : (kind : SessionKind) → same_kind kind kind ≡ true
+pub same_kind_itself : (kind : SessionKind) → same_kind kind kind ≡ true
 same_kind_itself kinds.Sync = refl
 same_kind_itself kinds.Forward = refl
 

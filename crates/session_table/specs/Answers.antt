@@ -1,8 +1,9 @@
 -- What the table answers to a command: the refusals in their order.
-use Rattle.std.specs.Prelude.{ℕ, cond, List, Option, Some, None, nat_eq, nat_lt, nat_le, length}
+use Rattle.std.specs.Prelude.{◌≡◌, ℕ, cond, List, Option, Some, None, nat_eq, nat_lt, nat_le, length}
 use Rattle.std.specs.Map.{lookup}
 use Rattle.std.specs.Option.{unwrap_or}
 use Rattle.command_words.specs.declared.client.Client.{Client}
+use Rattle.command_words.specs.declared.identifier.Identifier.{Identifier}
 use Rattle.command_words.specs.declared.session_kind.SessionKind.{SessionKind}
 use Rattle.command_words.specs.declared.session_kind.SessionKind.TheVariants.{Sync}
 use Rattle.mode_rules.specs.declared.halt.Halt.{Halt}
@@ -90,3 +91,20 @@ by_row number (Some row) rows = by_number number row
 -- refusal where it is new and 64 clients are kept.
 abbrev pub turned_away : Client → List ClientRow → Option CommandReply
 turned_away client rows = by_row client.number (client_named client.name rows) rows
+
+-- a create that is answered so: its identifier was never given, and its name is new
+abbrev pub IsNew : Create → Identifier → List (ℕ × SessionKind) → List (ℕ × Session) → Type 0
+IsNew c i given live = (lookup (nat_eq i.id) given ≡ None) × (holder_of (kind_of c) (name_of c) live ≡ None) × (i.kind ≡ kind_of c)
+
+abbrev pub IsNewIf : Create → CommandReply → Machine → Type 0
+IsNewIf c (Created i) m = IsNew c i m.given m.live
+IsNewIf c _ m = Unit {0}
+
+abbrev pub IsFresh : TableRequest → CommandReply → Machine → Type 0
+IsFresh (CreateSession c) reply m = IsNewIf c reply m
+IsFresh _ reply m = Unit {0}
+
+-- the name of a create; other commands have none
+abbrev pub IsNameOf : TableRequest → Option (List ℕ) → Type 0
+IsNameOf (CreateSession c) name = name ≡ name_of c
+IsNameOf _ name = Unit {0}

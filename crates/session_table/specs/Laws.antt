@@ -6,6 +6,7 @@ use Rattle.command_words.specs.declared.session.SessionWord.TheVariants.{Identif
 use Rattle.command_words.specs.declared.session_kind.SessionKind.{SessionKind}
 use Rattle.session_table.specs.Answers.{turned_away}
 use Rattle.session_table.specs.Creates.{kind_of}
+use Rattle.session_table.specs.Distinct.{AreDistinct}
 use Rattle.session_table.specs.Finding.{client_named, id_by, id_named, is_named}
 use Rattle.session_table.specs.Machine.{step}
 use Rattle.session_table.specs.States.{IsCovered, Machine}
@@ -44,15 +45,6 @@ IsGone id m = ((kind : SessionKind) × (lookup (nat_eq id) m.given ≡ Some kind
 -- An identifier that is gone stays gone.
 abbrev pub StaysGone : Type 0
 StaysGone = (id : ℕ) (m : Machine) (ops : List TableOp) → IsGone id m → IsGone id (after_all ops m)
-
--- the session has no name that one of these has, of its kind
-abbrev pub IsNamedAlone : Session → List (ℕ × Session) → Type 0
-IsNamedAlone s es = (kind : SessionKind) (name : List ℕ) → is_named kind name s ≡ true → id_named kind name es ≡ None
-
--- no two sessions have one identifier, or one kind and one name
-abbrev pub AreDistinct : List (ℕ × Session) → Type 0
-AreDistinct [] = Unit {0}
-AreDistinct (e ∷ es) = (lookup (nat_eq e.0) es ≡ None) × IsNamedAlone e.1 es × AreDistinct es
 
 -- what every table keeps to: its sessions are distinct, and their identifiers were given
 abbrev pub IsSound : Machine → Type 0

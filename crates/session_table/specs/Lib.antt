@@ -1,5 +1,6 @@
 pub mod Answers
 pub mod Creates
+pub mod Distinct
 pub mod Finding
 pub mod Laws
 pub mod Lists

@@ -6,7 +6,7 @@ use Rattle.std.specs.Option.{option_map}
 use Rattle.command_words.specs.declared.client.Client.{Client}
 use Rattle.command_words.specs.declared.identifier.Identifier.{Identifier}
 use Rattle.session_control.specs.declared.standing.Standing.{Standing}
-use Rattle.session_table.specs.Answers.{answer, turned_away}
+use Rattle.session_table.specs.Answers.{answer, turned_away, IsNameOf}
 use Rattle.session_table.specs.Lists.{query_reply, wait_reply}
 use Rattle.session_table.specs.Finding.{is_client, standing_at}
 use Rattle.session_table.specs.Standings.{after, change_by, new_session, with_report, with_standing}
@@ -136,7 +136,7 @@ abbrev pub Steps : Machine → TableOp → TableReply → Machine → Type 0
 Steps m op NoMemory n = IsTrue (takes_memory op) × (n ≡ m)
 Steps m op reply n = step op m ≡ (reply, n)
 
--- a create that is answered so has an identifier that was never given
-abbrev pub IsFresh : CommandReply → Machine → Type 0
-IsFresh (Created i) m = lookup (nat_eq i.id) m.given ≡ None
-IsFresh _ m = Unit {0}
+-- the name of a create that is asked; other operations have none
+abbrev pub IsNameFor : TableOp → Option (List ℕ) → Type 0
+IsNameFor (Ask client request drawn) name = IsNameOf request name
+IsNameFor _ name = Unit {0}

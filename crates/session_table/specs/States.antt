@@ -1,8 +1,11 @@
 -- What the table is: a list of sessions, the identifiers that were ever given, the clients, and the run.
-use Rattle.std.specs.Prelude.{◌≡◌, ℕ, min, List, None, nat_eq}
+use Rattle.std.specs.Prelude.{◌≡◌, ℕ, Bool, min, map, string_bytes, List, None, nat_eq}
 use Rattle.std.specs.Map.{lookup}
+use Rattle.std.specs.declared.string.String.{String}
 use Rattle.command_words.specs.declared.session_kind.SessionKind.{SessionKind}
 use Rattle.session_table.specs.declared.client_row.ClientRow.{ClientRow}
+use Rattle.session_table.specs.declared.op.TableOp.{TableOp}
+use Rattle.session_table.specs.declared.reply.TableReply.{TableReply}
 use Rattle.session_table.specs.declared.session.Session.{Session}
 
 -- The table's machine: the live sessions by their identifiers, in order of creation; every identifier ever given, with the kind of its
@@ -28,6 +31,21 @@ pub record SessionsState : Type 0 where
   pub live : List (ℕ × Session)
   pub given : List (ℕ × SessionKind)
   pub room : ℕ
+
+-- the names of live sessions of one kind with their identifiers, and how many more it may take without memory
+pub record NamesState : Type 0 where
+  pub names : List (List ℕ × ℕ)
+  pub room : ℕ
+
+-- texts as their bytes
+abbrev pub named_entries : {A : Type 0} → List (String A × ℕ) → List (List ℕ × ℕ)
+named_entries es = map (λ e. (string_bytes e.0, e.1)) es
+
+-- What contracts see of a step that is prepared.
+pub record PreparedStep : Type 0 where
+  pub op : TableOp
+  pub reply : TableReply
+  pub acts : Bool
 
 -- the clients of a table, and how many more it may take without memory
 pub record ClientsState : Type 0 where

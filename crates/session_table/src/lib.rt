@@ -19,6 +19,7 @@ mod create;
 mod kinds;
 pub mod laws;
 mod lists;
+mod name_map;
 mod op;
 mod refusal;
 mod reply;

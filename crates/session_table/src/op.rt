@@ -1,5 +1,7 @@
 //! What the table does in one step.
-ghost use Rattle.std.specs.Prelude.{◌≡◌, IfOk};
+ghost use Rattle.std.specs.Prelude.{◌≡◌, IfOk, string_bytes};
+ghost use Rattle.std.specs.Option.{option_map};
+ghost use Rattle.session_table.specs.Machine.{IsNameFor};
 
 use crate::request::{TableQuery, TableRequest};
 use command_words::Client;
@@ -39,6 +41,16 @@ pub enum TableOp {
 }
 
 impl TableOp {
+    /// The name of a create that is asked as a text, if it has one; none of any other operation. Cost: its length.
+    pub(crate) fn name_text(&self, alloc: Global) -> Result<Option<String>, AllocError>
+        ensures { IfOk result (λ name. IsNameFor self.now (option_map string_bytes name)) }
+    {
+        match self {
+            TableOp::Ask { request, .. } => request.name_text(alloc),
+            _ => Ok(None),
+        }
+    }
+
     /// An equal operation. Cost: its length.
     pub fn copy(&self, alloc: Global) -> Result<TableOp, AllocError>
         ensures { IfOk result (λ op. op ≡ self.now) }

@@ -1,9 +1,11 @@
 //! What a client asks of the table.
-ghost use Rattle.std.specs.Prelude.{◌≡◌, IfOk};
+ghost use Rattle.std.specs.Prelude.{◌≡◌, IfOk, string_bytes};
+ghost use Rattle.std.specs.Option.{option_copied, option_map};
+ghost use Rattle.session_table.specs.Answers.{IsNameOf};
 ghost use Rattle.session_table.specs.Replies.{is_lasting};
 
 use crate::create::Create;
-use command_words::{Label, SessionKind, SessionWord};
+use command_words::{GivenName, Label, SessionKind, SessionWord};
 use std::alloc::{AllocError, Global};
 
 /// A command, before which a client's number may stand.
@@ -40,6 +42,16 @@ impl TableRequest {
         ensures { result ≡ is_lasting self.now }
     {
         !matches!(self, TableRequest::Flush(_))
+    }
+
+    /// The name of a create as a text, if it has one; none of any other command. Cost: its length.
+    pub(crate) fn name_text(&self, alloc: Global) -> Result<Option<String>, AllocError>
+        ensures { IfOk result (λ name. IsNameOf self.now (option_map string_bytes name)) }
+    {
+        match self {
+            TableRequest::Create(create) => name_text(alloc, create.name()),
+            _ => Ok(None),
+        }
     }
 
     /// An equal request. Cost: its length.
@@ -82,6 +94,16 @@ fn copied_label(alloc: Global, label: &Option<Label>) -> Result<Option<Label>, A
 {
     match label {
         Some(label) => Ok(Some(label.copy(alloc)?)),
+        None => Ok(None),
+    }
+}
+
+// A name as a text, if there is one.
+fn name_text(alloc: Global, name: Option<&GivenName>) -> Result<Option<String>, AllocError>
+    ensures { IfOk result (λ text. option_map string_bytes text ≡ option_copied name.entry) }
+{
+    match name {
+        Some(name) => Ok(Some(String::from_str(alloc, name.as_str())?)),
         None => Ok(None),
     }
 }

@@ -1,5 +1,5 @@
 //! The session table.
-ghost use Rattle.std.specs.Prelude.{◌≡◌, ◌<◌, OnOk, nat_eq, slice_get};
+ghost use Rattle.std.specs.Prelude.{◌≡◌, ◌<◌, IfOk, OnOk, nat_eq, slice_get, string_bytes};
 ghost use Rattle.std.specs.Map.{lookup};
 ghost use Rattle.std.specs.Option.{option_copied, option_map};
 ghost use Rattle.session_table.specs.Machine.{altered, empty_machine, with_run, Steps};
@@ -10,6 +10,7 @@ ghost use Rattle.command_words.specs.declared.session.SessionWord.TheVariants.{I
 ghost use Rattle.session_table.specs.Standings.{after};
 ghost use Rattle.session_control.specs.declared.standing.Standing.{Standing};
 ghost use Rattle.session_table.specs.declared.change.Change.TheVariants as changes;
+ghost use Rattle.session_table.specs.Answers.{IsNameOf};
 ghost use Rattle.session_table.specs.States.{spare};
 ghost use Rattle.session_table.specs.declared.session.Session.{Session};
 
@@ -17,6 +18,7 @@ use crate::change::Change;
 use crate::clients::Clients;
 use crate::op::TableOp;
 use crate::reply::TableReply;
+use crate::request::TableRequest;
 use crate::session::Row;
 use crate::sessions::Sessions;
 use crate::standings::after;
@@ -69,7 +71,7 @@ impl Table {
 
     /// The identifier of the live session of the kind that has this identifier or this name. It takes no memory.
     ///
-    /// Cost: O(1), a hash; for a name a look at the names of the live sessions.
+    /// Cost: O(1), a hash.
     pub fn find(&self, kind: SessionKind, session: &str) -> Option<u128>
         ensures identified { (i : Identifier) → IsIdentifier i → session.now ≡ identifier_word i → result ≡ id_by kind (Identified i) self.now.machine.live }
         ensures named { ((i : Identifier) → IsIdentifier i → session.now ≡ identifier_word i → ⊥) → result ≡ id_named kind session.now self.now.machine.live }
@@ -109,11 +111,26 @@ impl Table {
         self.clients.reserve()
     }
 
+    // Takes all the memory of a command, and gives the name of a create.
+    fn make_ready(
+        &mut self,
+        alloc: Global,
+        request: &TableRequest,
+    ) -> Result<Option<String>, AllocError>
+        ensures machine { self.new.machine ≡ self.old.machine }
+        ensures spare { OnOk result (0 < spare self.new) }
+        ensures name { IfOk result (λ name. IsNameOf request.now (option_map string_bytes name)) }
+    {
+        let name = request.name_text(alloc)?;
+        self.reserve()?;
+        Ok(name)
+    }
+
     /// Does one operation, and answers. With want of memory the answer is `NoMemory`, and the table is as it was; `Look`, `Begin` and
     /// `Ended` take no memory.
     ///
-    /// Cost: a few hashes, and a look at the clients' names and at the sessions' names for a session that is named so. A list looks at each session; a terminate moves
-    /// those behind the session. Lists and reports are copied.
+    /// Cost: a few hashes, and a look at the clients' names. A list looks at each session; a terminate moves those behind the session.
+    /// Lists and reports are copied.
     pub fn step(&mut self, alloc: Global, op: TableOp) -> TableReply
         ensures { Steps self.old.machine op result self.new.machine }
     {
@@ -124,8 +141,8 @@ impl Table {
                 drawn,
             } => match self.turned_away(&client) {
                 Some(reply) => TableReply::Command(reply),
-                None => match self.reserve() {
-                    Ok(()) => TableReply::Command(self.act(client, request, drawn)),
+                None => match self.make_ready(alloc, &request) {
+                    Ok(name) => TableReply::Command(self.act(client, request, drawn, name)),
                     Err(_) => TableReply::NoMemory,
                 },
             },

@@ -1,7 +1,10 @@
 //! What a command leaves.
-ghost use Rattle.std.specs.Prelude.{◌≡◌, ◌<◌};
-ghost use Rattle.session_table.specs.Machine.{acted, altered_by, created_by, done, kept_for, terminated_by, IsFresh};
+ghost use Rattle.std.specs.Prelude.{◌≡◌, ◌<◌, string_bytes};
+ghost use Rattle.session_table.specs.Machine.{acted, altered_by, created_by, done, kept_for, terminated_by};
+ghost use Rattle.session_table.specs.Answers.{IsFresh, IsNameOf, IsNewIf};
+ghost use Rattle.session_table.specs.Creates.{name_of};
 ghost use Rattle.session_table.specs.States.{spare};
+ghost use Rattle.std.specs.Option.{option_map};
 
 use super::Table;
 use crate::change::Change;
@@ -17,25 +20,28 @@ impl Table {
         client: Option<Client>,
         request: TableRequest,
         drawn: Option<u128>,
+        name: Option<String>,
     ) -> CommandReply
-        requires { 0 < spare self.old }
+        requires room { 0 < spare self.old }
+        requires name { IsNameOf request (option_map string_bytes name) }
         ensures { (result, self.new.machine) ≡ acted client request drawn self.old.machine }
     {
         let reply = self.answer(&request, drawn);
-        self.done(request, reply);
+        self.done(request, reply, name);
         self.keep(client, reply);
         reply
     }
 
     // Does a command that was answered so.
-    fn done(&mut self, request: TableRequest, reply: CommandReply)
+    fn done(&mut self, request: TableRequest, reply: CommandReply, name: Option<String>)
         requires room { 0 < self.old.session_room }
-        requires fresh { IsFresh reply self.old.machine }
+        requires fresh { IsFresh request reply self.old.machine }
+        requires name { IsNameOf request (option_map string_bytes name) }
         ensures machine { self.new.machine ≡ done request reply self.old.machine }
         ensures client_room { self.new.client_room ≡ self.old.client_room }
     {
         match request {
-            TableRequest::Create(create) => self.create(create, reply),
+            TableRequest::Create(create) => self.create(create, reply, name),
             TableRequest::Flush(_) => self.alter(Change::Flush, reply),
             TableRequest::Pause(_, _) => self.alter(Change::Pause, reply),
             TableRequest::Resume(_, _) => self.alter(Change::Resume, reply),
@@ -45,14 +51,15 @@ impl Table {
     }
 
     // Makes the session of a create that was answered so.
-    fn create(&mut self, create: Create, reply: CommandReply)
+    fn create(&mut self, create: Create, reply: CommandReply, name: Option<String>)
         requires room { 0 < self.old.session_room }
-        requires fresh { IsFresh reply self.old.machine }
+        requires fresh { IsNewIf create reply self.old.machine }
+        requires name { option_map string_bytes name ≡ name_of create }
         ensures machine { self.new.machine ≡ created_by create reply self.old.machine }
         ensures client_room { self.new.client_room ≡ self.old.client_room }
     {
         match reply {
-            CommandReply::Created(identifier) => self.sessions.insert(identifier, create),
+            CommandReply::Created(identifier) => self.sessions.insert(identifier, create, name),
             _ => {}
         }
     }

@@ -1,13 +1,14 @@
 //! What a command is answered.
-ghost use Rattle.std.specs.Prelude.{◌≡◌};
+ghost use Rattle.std.specs.Prelude.{◌≡◌, None};
 ghost use Rattle.std.specs.Option.{option_copied};
-ghost use Rattle.session_table.specs.Answers.{answer, create_reply, flush_at, flush_reply, fresh_reply, holder_of, order_reply, unless_halted};
+ghost use Rattle.session_table.specs.Answers.{answer, create_reply, flush_at, flush_reply, fresh_reply, holder_of, order_reply, unless_halted, IsFresh, IsNewIf};
 ghost use Rattle.session_table.specs.Finding.{id_by};
 ghost use Rattle.session_table.specs.Standings.{after};
 ghost use Rattle.session_table.specs.declared.reply.CommandReply.TheVariants.{Awaits};
 ghost use Rattle.command_words.specs.declared.session_kind.SessionKind.TheVariants as kinds;
-ghost use Rattle.session_table.specs.Machine.{turned_away_for, IsFresh};
-ghost use Rattle.session_table.specs.States.{Machine};
+ghost use Rattle.session_table.specs.Machine.{turned_away_for};
+ghost use Rattle.session_table.specs.Creates.{kind_of, name_of};
+ghost use Rattle.session_table.specs.declared.create.Create.{Create};
 
 use super::Table;
 use crate::create::Create;
@@ -23,7 +24,7 @@ impl Table {
     /// What a command is answered; `drawn` is the identifier that was drawn, and None counts as 0.
     pub(super) fn answer(&self, request: &TableRequest, drawn: Option<u128>) -> CommandReply
         ensures value { result ≡ answer request.now drawn self.now.machine }
-        ensures fresh { IsFresh result self.now.machine }
+        ensures fresh { IsFresh request.now result self.now.machine }
     {
         match request {
             TableRequest::Create(create) => self.create_reply(create, drawn.unwrap_or(0)),
@@ -42,7 +43,7 @@ impl Table {
     // What a create is answered.
     fn create_reply(&self, create: &Create, id: u128) -> CommandReply
         ensures value { result ≡ create_reply create.now id self.now.machine }
-        ensures fresh { IsFresh result self.now.machine }
+        ensures fresh { IsNewIf create.now result self.now.machine }
     {
         if create.has_same_roots() {
             return CommandReply::Refused(TableRefusal::SameRoot);
@@ -62,7 +63,7 @@ impl Table {
     // What is answered of the identifier that was drawn.
     fn fresh_reply(&self, kind: SessionKind, id: u128) -> CommandReply
         ensures value { result ≡ fresh_reply kind id self.now.machine }
-        ensures fresh { IsFresh result self.now.machine }
+        ensures fresh { (c : Create) → kind ≡ kind_of c → holder_of (kind_of c) (name_of c) self.now.machine.live ≡ None → IsNewIf c result self.now.machine }
     {
         match self.sessions.kind_given(id) {
             Some(given) => {
@@ -85,7 +86,6 @@ impl Table {
     // What a flush is answered.
     fn flush_reply(&self, session: &SessionWord) -> CommandReply
         ensures value { result ≡ flush_reply (id_by kinds.Sync session.now self.now.machine.live) self.now.machine }
-        ensures fresh { IsFresh result self.now.machine }
     {
         match self.sessions.id_by(SessionKind::Sync, session) {
             Some(id) => flush_at(self.run, id, self.sessions.standing(id)),
@@ -96,7 +96,6 @@ impl Table {
     // What every other command is answered.
     fn order_reply(&self, order: Order, kind: SessionKind, session: &SessionWord) -> CommandReply
         ensures value { result ≡ order_reply order kind (id_by kind session.now self.now.machine.live) }
-        ensures fresh { IsFresh result self.now.machine }
     {
         match self.sessions.id_by(kind, session) {
             Some(id) => CommandReply::Ordered(order, Identifier { kind, id }),
@@ -118,7 +117,6 @@ impl Table {
 // What a flush of a session is answered that stands so.
 fn flush_at(run: u32, id: u128, standing: Option<Standing>) -> CommandReply
     ensures value { result ≡ flush_at run id standing }
-    ensures fresh { (m : Machine) → IsFresh result m }
 {
     match standing {
         Some(standing) => match standing.wish {
@@ -132,7 +130,6 @@ fn flush_at(run: u32, id: u128, standing: Option<Standing>) -> CommandReply
 // What a flush of a session is answered that isn't paused.
 fn unless_halted(run: u32, id: u128, standing: Standing) -> CommandReply
     ensures value { result ≡ unless_halted standing.halted (Awaits id run (after standing.begun)) }
-    ensures fresh { (m : Machine) → IsFresh result m }
 {
     match standing.halted {
         Some(halt) => CommandReply::Refused(TableRefusal::Halted(halt)),

@@ -1,6 +1,8 @@
 //! A step in two parts: what takes memory first, and then the step itself.
-ghost use Rattle.std.specs.Prelude.{◌≡◌, ◌<◌, IfOk, OnOk};
+ghost use Rattle.std.specs.Prelude.{◌≡◌, ◌<◌, IfOk, OnOk, string_bytes};
 ghost use Rattle.session_table.specs.Machine.{acts, asked, step};
+ghost use Rattle.std.specs.Option.{option_map};
+ghost use Rattle.session_table.specs.Answers.{IsNameOf};
 ghost use Rattle.session_table.specs.States.{spare};
 
 use super::Table;
@@ -9,13 +11,28 @@ use crate::reply::{CommandReply, TableReply};
 use crate::request::TableRequest;
 use command_words::Client;
 use std::alloc::{AllocError, Global};
+use std::marker::Model;
 
 /// A step that is prepared: the operation, its reply, and whether it acts, so that it is to be kept.
-#[derive(Debug, Drop)]
+#[derive(Drop)]
 pub struct Prepared {
     op: TableOp,
     reply: TableReply,
     acts: bool,
+    name: Option<String>,
+}
+
+impl Model for Prepared {
+    ghost use Rattle.std.specs.Prelude.{string_bytes};
+    ghost use Rattle.std.specs.Option.{option_map};
+    ghost use Rattle.session_table.specs.States.{PreparedStep};
+    ghost use Rattle.session_table.specs.Machine.{IsNameFor};
+
+    ghost Value = { PreparedStep };
+
+    ghost view = { λ p. record { op = p.op; reply = p.reply; acts = p.acts } };
+
+    ghost invariant = { λ p. IsNameFor p.op (option_map string_bytes p.name) };
 }
 
 impl Prepared {
@@ -47,9 +64,15 @@ impl Table {
     {
         let reply = self.reply_to(alloc, op)?;
         let acts = self.acts(op);
+        let name = op.name_text(alloc)?;
         let op = op.copy(alloc)?;
         self.reserve()?;
-        Ok(Prepared { op, reply, acts })
+        Ok(Prepared {
+            op,
+            reply,
+            acts,
+            name,
+        })
     }
 
     // What an operation is answered.
@@ -110,13 +133,18 @@ impl Table {
         requires reply { prepared.reply ≡ (step prepared.op self.old.machine).0 }
         ensures { step prepared.op self.old.machine ≡ (result, self.new.machine) }
     {
-        let Prepared { op, reply, .. } = prepared;
+        let Prepared {
+            op,
+            reply,
+            name,
+            ..
+        } = prepared;
         match op {
             TableOp::Ask {
                 client,
                 request,
                 drawn,
-            } => TableReply::Command(self.ask(client, request, drawn)),
+            } => TableReply::Command(self.ask(client, request, drawn, name)),
             TableOp::Begin { id } => TableReply::Begun(self.begin(id)),
             TableOp::Ended { id, report } => TableReply::Noted(self.sessions.end(id, report)),
             _ => reply,
@@ -129,13 +157,15 @@ impl Table {
         client: Option<Client>,
         request: TableRequest,
         drawn: Option<u128>,
+        name: Option<String>,
     ) -> CommandReply
-        requires { 0 < spare self.old }
+        requires room { 0 < spare self.old }
+        requires name { IsNameOf request (option_map string_bytes name) }
         ensures { (result, self.new.machine) ≡ asked client request drawn self.old.machine }
     {
         match self.turned_away(&client) {
             Some(reply) => reply,
-            None => self.act(client, request, drawn),
+            None => self.act(client, request, drawn, name),
         }
     }
 }

@@ -1,6 +1,9 @@
-use Rattle.std.proofs.Common.{◌∙◌, sym, ap, nat_eq}
+use Rattle.std.proofs.Common.{◌≡◌, ◌∙◌, ℕ, List, refl, sym, ap, subst, nat_eq}
+use Rattle.session_table.specs.Distinct.{AreKept}
+use Rattle.session_table.proofs.Indexed.{kept_changed}
 use Rattle.std.specs.Map.{set_value}
 use Rattle.std.specs.Option.{option_copied_mut}
+use Rattle.session_table.specs.declared.session.Session.{Session}
 use Rattle.session_table.specs.declared.sessions.Sessions.TheInside.{Inside}
 use Rattle.session_table.specs.Machine.{changed}
 use Rattle.session_table.specs.Standings.{with_report}
@@ -30,4 +33,28 @@ returns-clause-live c =
           ∙ ap (λ m. m.entries) c.get_mut.follows.holds-at-none
           ∙ changed_nowhere id change es here
           ∙ seen
+    ]
+
+pub invariant_of-self : goal.invariant_of-self
+invariant_of-self c =
+    let id = c.args.id in
+    let change = with_report c.args.report in
+    let inside = c.self.inside in
+    let es = inside.live.entries in
+    let kept = kept_changed inside.given.entries es inside.sync_names.names inside.forward_names.names c.self.invariant id change (λ s. refl) in
+    let back : (now : List (ℕ × Session)) → now ≡ changed id change es → AreKept inside.given.entries now inside.sync_names.names inside.forward_names.names =
+    λ now same. subst (λ n. AreKept inside.given.entries n inside.sync_names.names inside.forward_names.names) (sym same) kept in
+    elim c.match-get_mut.branch [
+      | in-Some w ↦
+          let s = w.in-Some.session.now in
+          let here = sym c.get_mut.ensures.value ∙ ap option_copied_mut w.in-Some.is in
+          subst (λ (x : Inside). AreKept x.given.entries x.live.entries x.sync_names.names x.forward_names.names) (sym w.self-inside-is) (back _
+          ((c.get_mut.follows.holds w.note.new.session).0
+          ∙ ap (set_value (nat_eq id) es) w.note.ensures
+          ∙ changed_here id change es s here
+          ))
+      | in-None w ↦
+          let here = sym c.get_mut.ensures.value ∙ ap option_copied_mut w.in-None.is in
+          subst (λ (x : Inside). AreKept x.given.entries x.live.entries x.sync_names.names x.forward_names.names) (sym w.self-inside-is)
+          (back _ (ap (λ m. m.entries) c.get_mut.follows.holds-at-none ∙ changed_nowhere id change es here))
     ]
