@@ -4,7 +4,8 @@ use Rattle.std.proofs.lemmas.List.{append-nil}
 use mathlib.Core.Option.{some, some-injective, some-ne-none}
 use lib.ListN.{get_elem?}
 use Rattle.history_cell.specs.declared.entry.Entry.{Entry}
-use Rattle.history_cell.specs.History.{Leads, calls_by, BeginsWith, longer, shorter}
+use Rattle.finite_maps.specs.Lists.{BeginsWith}
+use Rattle.history_cell.specs.History.{Leads, calls_by, longer, shorter}
 
 module _ {A : Type 0} where
   -- what stands in a list one longer stood there, or is the new one at its end

@@ -16,7 +16,8 @@ use Rattle.history_cell.specs.declared.kept.Said.{Said}
 use Rattle.history_cell.specs.declared.view.Stage.{Stage}
 use Rattle.history_cell.specs.declared.view.Stage.TheVariants.{Resting, Waiting, Serving, Joined}
 use Rattle.history_cell.specs.declared.view.View.{View}
-use Rattle.history_cell.specs.History.{Leads, entry, calls_by, BeginsWith}
+use Rattle.finite_maps.specs.Lists.{BeginsWith}
+use Rattle.history_cell.specs.History.{Leads, entry, calls_by}
 use Rattle.history_cell.specs.Tickets.{view, newcomer, split_off, joined, gone, holds, is_due, holders, Knows, Suits, IsHome, IsOut, IsKept}
 use Rattle.history_cell.specs.Steps.{SeatOf, knowing_drawn, staged, LooksAtTickets, Draws, LooksAtServing, Goes, Serves, Settles}
 use Rattle.history_cell.specs.Passes.{EndsAt, HasLost}

@@ -1,5 +1,5 @@
 -- Legal histories of a sequential object.
-use Rattle.std.specs.Prelude.{◌≡◌, ℕ, ◌==◌, if◌then◌else◌, nat_lt, List, [], ◌∷◌, ◌++◌, length}
+use Rattle.std.specs.Prelude.{◌≡◌, ℕ, ◌==◌, if◌then◌else◌, nat_lt, List, [], ◌∷◌, length}
 use Rattle.history_cell.specs.declared.entry.Entry.{Entry}
 
 -- from the object before, each of the calls gets a reply that the object gives there, and after them all it is the object after
@@ -18,10 +18,6 @@ entry by op reply = record { by = by; op = op; reply = reply }
 abbrev pub calls_by : {A B : Type 0} → ℕ → List (Entry A B) → List (Entry A B)
 calls_by by [] = []
 calls_by by (e ∷ es) = if e.by == by then e ∷ calls_by by es else calls_by by es
-
--- the list begins with these
-abbrev pub BeginsWith : {A : Type 0} → List A → List A → Type 0
-BeginsWith {A} xs start = (rest : List A) × (xs ≡ start ++ rest)
 
 -- the longer of two lists
 abbrev pub longer : {A : Type 0} → List A → List A → List A

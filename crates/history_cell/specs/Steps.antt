@@ -7,7 +7,8 @@ use Rattle.history_cell.specs.declared.kept.Said.{Said}
 use Rattle.history_cell.specs.declared.view.Stage.{Stage}
 use Rattle.history_cell.specs.declared.view.Stage.TheVariants.{Resting, Waiting, Serving}
 use Rattle.history_cell.specs.declared.view.View.{View}
-use Rattle.history_cell.specs.History.{Leads, entry, calls_by, BeginsWith}
+use Rattle.finite_maps.specs.Lists.{BeginsWith}
+use Rattle.history_cell.specs.History.{Leads, entry, calls_by}
 use Rattle.history_cell.specs.Tickets.{view}
 
 -- a seat at the table of a cell

@@ -9,7 +9,8 @@ use Rattle.history_cell.specs.declared.kept.Kept.{Kept}
 use Rattle.history_cell.specs.declared.view.Stage.{Stage}
 use Rattle.history_cell.specs.declared.view.Stage.TheVariants.{Resting, Waiting, Serving, Joined}
 use Rattle.history_cell.specs.declared.view.View.{View}
-use Rattle.history_cell.specs.History.{Leads, calls_by, BeginsWith, longer, shorter}
+use Rattle.finite_maps.specs.Lists.{BeginsWith}
+use Rattle.history_cell.specs.History.{Leads, calls_by, longer, shorter}
 
 -- the pass holds this ticket, and hasn't spent it
 abbrev pub holds : {O : Type 0} → ℕ → Stage O → Bool

@@ -2,7 +2,8 @@
 ghost use Rattle.std.specs.Prelude.{◌≡◌, ◌<◌, ◌≤◌, [], length, IfOk, OnOk, IfErr, OnErr};
 ghost use Rattle.history_cell.specs.declared.cell.TheConstants.{MOST_TICKETS};
 ghost use Rattle.history_cell.specs.declared.view.Stage.TheVariants.{Resting, Waiting};
-ghost use Rattle.history_cell.specs.History.{IsLegal, BeginsWith, longer};
+ghost use Rattle.finite_maps.specs.Lists.{BeginsWith};
+ghost use Rattle.history_cell.specs.History.{IsLegal, longer};
 ghost use Rattle.history_cell.specs.Steps.{knowing_drawn, staged, Turns, IsServing, Goes};
 
 use crate::answer::{Spent, TurnOut};

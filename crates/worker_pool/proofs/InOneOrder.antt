@@ -10,7 +10,8 @@ use Rattle.worker_pool.specs.declared.moves.Move.{Move}
 use Rattle.worker_pool.specs.declared.moves.Move.TheVariants.{Put, Took}
 use Rattle.worker_pool.specs.declared.moves.Seen.{Seen}
 use Rattle.worker_pool.specs.declared.ready.TheConstants.{CAPACITY}
-use Rattle.worker_pool.specs.Order.{seen, puts, takes, maker, moves_by, Leaves, IsInOrder, BeginsWith, Fits, InOneOrder, Adds, Pushed, Popped, MayHold}
+use Rattle.finite_maps.specs.Lists.{BeginsWith}
+use Rattle.worker_pool.specs.Order.{seen, puts, takes, maker, moves_by, Leaves, IsInOrder, Fits, InOneOrder, Adds, Pushed, Popped, MayHold}
 
 module _ {A : Type 0} where
   -- what stands at a number stands below the length

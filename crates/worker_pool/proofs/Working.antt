@@ -4,7 +4,7 @@ use Rattle.std.specs.Prelude.{Option, None, Some}
 use Rattle.crossbeam_queue.specs.Passes.{Pass, IsSamePass}
 use Rattle.worker_pool.specs.declared.moves.Move.{Move}
 use Rattle.worker_pool.specs.declared.moves.Move.TheVariants.{Put, Took}
-use Rattle.worker_pool.specs.Order.{BeginsWith}
+use Rattle.finite_maps.specs.Lists.{BeginsWith}
 use Rattle.worker_pool.specs.Work.{IsWork, WorksFrom}
 use Rattle.worker_pool.proofs.FiniteMap.{none_some}
 

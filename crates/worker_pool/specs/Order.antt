@@ -1,5 +1,6 @@
 -- The moves of a queue of ready tasks, in the one order in which they were made, and what each pass has seen of them.
 use Rattle.std.specs.Prelude.{◌≡◌, ℕ, ◌==◌, ◌≤◌, if◌then◌else◌, List, [], ◌∷◌, ◌++◌, length, take}
+use Rattle.finite_maps.specs.Lists.{BeginsWith}
 use mathlib.Core.Option.{some}
 use lib.ListN.{get_elem?}
 use Rattle.worker_pool.specs.declared.ready.TheConstants.{CAPACITY}
@@ -39,10 +40,6 @@ Leaves moves tasks = (puts moves ≡ takes moves ++ tasks) × (length tasks ≤ 
 -- first in, first out: so it was after each move, so that none is lost, doubled or overtaken
 abbrev pub IsInOrder : {T : Type 0} → List (Move T) → Type 0
 IsInOrder {T} moves = (n : ℕ) → (tasks : List T) × Leaves (take n moves) tasks
-
--- the list begins with these
-abbrev pub BeginsWith : {A : Type 0} → List A → List A → Type 0
-BeginsWith {A} xs start = (rest : List A) × (xs ≡ start ++ rest)
 
 -- the moves begin with those that the pass has seen, and its own are all that they have of it
 abbrev pub Fits : {T : Type 0} → List (Move T) → ℕ → Seen T → Type 0

@@ -1,7 +1,7 @@
 //! What a worker does.
 ghost use Rattle.std.specs.Prelude.{◌≡◌, IfSome};
 ghost use Rattle.crossbeam_queue.specs.Passes.{view, IsSamePass};
-ghost use Rattle.worker_pool.specs.Order.{BeginsWith};
+ghost use Rattle.finite_maps.specs.Lists.{BeginsWith};
 ghost use Rattle.worker_pool.specs.ReadyPass.{BelongsTo};
 ghost use Rattle.worker_pool.specs.Work.{WorksFrom, HandsOn};
 

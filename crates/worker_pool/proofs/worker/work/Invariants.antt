@@ -1,5 +1,5 @@
 use Rattle.crossbeam_queue.specs.Passes.{view, IsSamePass}
-use Rattle.worker_pool.specs.Order.{BeginsWith}
+use Rattle.finite_maps.specs.Lists.{BeginsWith}
 use Rattle.worker_pool.specs.Work.{WorksFrom}
 use Rattle.worker_pool.proofs.worker.work.Given as goal
 
