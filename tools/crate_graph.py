@@ -12,7 +12,7 @@ FLOORS = [
     ("programs", ["sync_cli"]),
     ("tests", ["script_tests", "plan_tests", "transition_tests", "staging_tests", "request_tests", "session_tests", "scan_tests", "roots_tests", "link_tests"]),
     ("runs", ["script_engine"]),
-    ("cycles", ["scan_cache", "scan_core", "scan_laws", "frame_text", "reply_laws", "request_laws", "ancestor_store", "transition_plan", "transition_laws", "stage_core", "session_table", "session_control", "agent_proto", "plan_laws", "reconcile"]),
+    ("cycles", ["scan_cache", "scan_core", "scan_laws", "frame_text", "reply_laws", "request_laws", "ancestor_store", "transition_plan", "transition_laws", "cycle_law", "stage_core", "session_table", "session_control", "agent_proto", "plan_laws", "reconcile"]),
     ("roots", ["mem_roots", "root_laws"]),
     ("models", ["mode_rules", "roots_api", "ignore_rules", "ignore_glob", "entry_tree", "sync_path", "reply_text", "request_text", "command_words", "line_words"]),
     ("streams", ["forward_core", "mux_link", "mux_core", "mux_frames"]),

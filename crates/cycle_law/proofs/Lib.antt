@@ -1,0 +1,9 @@
+pub mod Lists
+pub mod Points
+pub mod Tests
+pub mod Licensed
+pub mod Makings
+pub mod Agreements
+pub mod Held
+pub mod Evaluating
+pub mod Forgotten

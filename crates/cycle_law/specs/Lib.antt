@@ -1,0 +1,10 @@
+pub mod Conserving
+pub mod Cycles
+pub mod Frames
+pub mod Laws
+pub mod Licences
+pub mod Ordering
+pub mod Plans
+pub mod Sameness
+pub mod Saw
+pub mod Worked

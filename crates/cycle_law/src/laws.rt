@@ -1,0 +1,33 @@
+//! The laws. Each is the contract of a function that does nothing.
+ghost use Rattle.cycle_law.specs.Laws.{EachCycle, ForgetsItsLast, NamesWhatWasHeld, TakesTheAncestors};
+ghost use Rattle.cycle_law.specs.Worked.{DeletionTravels, FrameIsUnsound, HaltedChanges, HaltedRests, PlaceIsWrong, ShownIsRemoved};
+
+/// Small sessions, as examples of the definitions. A file and its deletion travel to the other side, which conserves; and so it does
+/// that a halted cycle changes nothing. These don't: a file is removed that the other side still shows; a frame lacks an agreed line,
+/// or names what isn't there; a file is placed with another content, or before it is kept; a halted cycle changes a side.
+pub fn worked_sessions()
+    ensures deletion { DeletionTravels }
+    ensures shown { ShownIsRemoved }
+    ensures unsound { FrameIsUnsound }
+    ensures wrong { PlaceIsWrong }
+    ensures halted { HaltedChanges }
+    ensures rests { HaltedRests }
+{}
+
+/// What a session that conserves took away, on a side where its mode wants a licence: each entry that one of its cycles removed or replaced
+/// has the atom that the ancestor of the cycle holds there, and the cycle didn't see that atom on the other side.
+///
+/// In two-way-safe this is so of both sides, in two-way-resolved of alpha, in one-way-safe of beta.
+pub fn only_the_ancestors_are_taken()
+    ensures { EachCycle TakesTheAncestors }
+{}
+
+/// What the frames of a session that conserves name: on each side, the cycle saw the atom that a line sets at its path, or put it there.
+pub fn frames_name_what_was_held()
+    ensures { EachCycle NamesWhatWasHeld }
+{}
+
+/// What conserves still does without its last frame, if no cycle's base counts that frame. A crash may take a frame that was not acknowledged.
+pub fn the_last_frame_may_be_lost()
+    ensures { ForgetsItsLast }
+{}
