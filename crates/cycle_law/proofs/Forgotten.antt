@@ -89,7 +89,7 @@ module _ (session : Session) (c : Cycle) (frames : List Payload) (last : Payload
       by false h = idle_less g h
 
   -- a cycle is spoken of as before
-  spoken_same : is_whole last ≡ false → is_spoken_of (frames ++ last ∷ []) c ≡ is_spoken_of frames c
+  pub spoken_same : is_whole last ≡ false → is_spoken_of (frames ++ last ∷ []) c ≡ is_spoken_of frames c
   spoken_same one = by frames
     where
       alone : (q : Payload) → is_whole q ≡ false → is_spoken_of (q ∷ []) c ≡ true
@@ -119,7 +119,7 @@ module _ (session : Session) (t : Traces) (last : Payload) (one_more : is_whole 
   abbrev longer : Traces
   longer = with_frames t (t.frames ++ last ∷ [])
 
-  ground_same : (c : Cycle) → nat_le c.base (length t.frames) ≡ true → ground_of longer c ≡ ground_of t c
+  pub ground_same : (c : Cycle) → nat_le c.base (length t.frames) ≡ true → ground_of longer c ≡ ground_of t c
   ground_same c short = λ i. record { alpha = t.alpha; beta = t.beta; ancestor = tree_of (fold_of (take-append-le c.base t.frames (last ∷ []) (leb-true c.base (length t.frames) short) i)) }
 
   lawful_less : (c : Cycle) → nat_le c.base (length t.frames) ≡ true → is_lawful session longer c ≡ true → is_lawful session t c ≡ true

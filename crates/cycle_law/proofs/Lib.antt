@@ -7,3 +7,5 @@ pub mod Agreements
 pub mod Held
 pub mod Evaluating
 pub mod Forgotten
+pub mod Turns
+pub mod Found

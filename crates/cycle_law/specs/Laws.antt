@@ -8,13 +8,14 @@ use Rattle.entry_tree.specs.declared.entry.Entry.{Entry}
 use Rattle.entry_tree.specs.declared.side.Side.{Side}
 use Rattle.frame_text.specs.declared.payload.Payload.{Payload}
 use Rattle.frame_text.specs.declared.payload.Payload.TheVariants.{Agree, Reset, Whole}
+use Rattle.frame_text.specs.declared.version.Version.{Version}
 use Rattle.mode_rules.specs.declared.ancestor_line.AncestorLine.{AncestorLine}
 use Rattle.mode_rules.specs.declared.ancestor_line.AncestorLine.TheVariants.{Set, Drop}
 use Rattle.cycle_law.specs.Conserving.{conserves, is_spoken_of}
 use Rattle.cycle_law.specs.Cycles.{Session, Cycle, Ground, Traces, log_of}
-use Rattle.cycle_law.specs.Frames.{frames_of, landed_on}
+use Rattle.cycle_law.specs.Frames.{frames_of, has_lines, landed_on, offered}
 use Rattle.cycle_law.specs.Licences.{atom_of, taken_on, wants_licence}
-use Rattle.cycle_law.specs.Plans.{ground_of}
+use Rattle.cycle_law.specs.Plans.{ground_of, may_act}
 use Rattle.cycle_law.specs.Saw.{saw_at}
 
 -- what holds of each cycle of a session that conserves, if its law speaks of the cycle
@@ -66,3 +67,19 @@ have_bases_in frames cycles = list_all (λ (c : Cycle). nat_le c.base (length fr
 abbrev pub ForgetsItsLast : Type 0
 ForgetsItsLast = (session : Session) (cycles : List Cycle) (t : Traces) (last : Payload) → is_whole last ≡ false → have_bases_in t.frames cycles ≡ true
     → conserves session cycles (with_frames t (t.frames ++ last ∷ [])) ≡ true → conserves session cycles t ≡ true
+
+-- whether each cycle's base counts all of these frames
+abbrev pub have_bases_behind : List Payload → List Cycle → Bool
+have_bases_behind frames cycles = list_all (λ (c : Cycle). nat_le (length frames) c.base) cycles
+
+-- the frame that a cycle offers
+abbrev pub frame_of : Session → Traces → Version → Cycle → Payload
+frame_of session t version c = Agree version c.run c.number (offered session (ground_of t c) c)
+
+-- WITH ONE FRAME MORE, which one of its cycles offered, a session still conserves: no base counts the frame, and each later cycle's base counts all before it.
+abbrev pub MayFindOneMore : Type 0
+MayFindOneMore = (session : Session) (before after : List Cycle) (c : Cycle) (t : Traces) (version : Version)
+    → may_act session (ground_of t c) c ≡ true → has_lines (offered session (ground_of t c) c) ≡ true
+    → have_bases_in t.frames (before ++ c ∷ after) ≡ true → have_bases_behind t.frames after ≡ true
+    → conserves session (before ++ c ∷ after) t ≡ true
+    → conserves session (before ++ c ∷ after) (with_frames t (t.frames ++ frame_of session t version c ∷ [])) ≡ true

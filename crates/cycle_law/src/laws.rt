@@ -1,5 +1,5 @@
 //! The laws. Each is the contract of a function that does nothing.
-ghost use Rattle.cycle_law.specs.Laws.{EachCycle, ForgetsItsLast, NamesWhatWasHeld, TakesTheAncestors};
+ghost use Rattle.cycle_law.specs.Laws.{EachCycle, ForgetsItsLast, MayFindOneMore, NamesWhatWasHeld, TakesTheAncestors};
 ghost use Rattle.cycle_law.specs.Worked.{DeletionTravels, FrameIsUnsound, HaltedChanges, HaltedRests, PlaceIsWrong, ShownIsRemoved};
 
 /// Small sessions, as examples of the definitions. A file and its deletion travel to the other side, which conserves; and so it does
@@ -30,4 +30,10 @@ pub fn frames_name_what_was_held()
 /// What conserves still does without its last frame, if no cycle's base counts that frame. A crash may take a frame that was not acknowledged.
 pub fn the_last_frame_may_be_lost()
     ensures { ForgetsItsLast }
+{}
+
+/// What conserves still does with one frame more behind all others, if that frame is the one that one of its cycles offered. No base may count it, and the
+/// base of each later cycle counts all frames before it. A crash may leave a frame whose append was refused.
+pub fn a_refused_frame_may_be_found()
+    ensures { MayFindOneMore }
 {}
