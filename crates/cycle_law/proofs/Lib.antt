@@ -9,3 +9,5 @@ pub mod Evaluating
 pub mod Forgotten
 pub mod Turns
 pub mod Found
+pub mod Reached
+pub mod Looks

@@ -1,6 +1,9 @@
 //! The laws. Each is the contract of a function that does nothing.
 ghost use Rattle.cycle_law.specs.Laws.{EachCycle, ForgetsItsLast, MayFindOneMore, NamesWhatWasHeld, TakesTheAncestors};
+ghost use Rattle.cycle_law.specs.LookLaws.{HiddenIsBelowUntracked, LookIsTree, StateAgreesWithLook};
 ghost use Rattle.cycle_law.specs.Worked.{DeletionTravels, FrameIsUnsound, HaltedChanges, HaltedRests, PlaceIsWrong, ShownIsRemoved};
+ghost use Rattle.cycle_law.specs.WorkedReports.{FaultIsCounted, HaltIsTold, RefusedIsTold, SkippedIsTold};
+ghost use Rattle.cycle_law.specs.WorkedSettled.{Settles, Unsettled};
 
 /// Small sessions, as examples of the definitions. A file and its deletion travel to the other side, which conserves; and so it does
 /// that a halted cycle changes nothing. These don't: a file is removed that the other side still shows; a frame lacks an agreed line,
@@ -12,6 +15,19 @@ pub fn worked_sessions()
     ensures wrong { PlaceIsWrong }
     ensures halted { HaltedChanges }
     ensures rests { HaltedRests }
+{}
+
+/// Small cycles with their reports, as examples of what is right and what is settled. A removal that is refused is told, and what is skipped, and for which
+/// path; a report isn't right that leaves a problem out, gives it another cause, another side, or twice. A halt is told, and no other end but want of memory. A
+/// fault is told only where the count of that root's faults rose. A cycle that nobody disturbs and that makes a folder is settled; it isn't where the
+/// folder isn't made, has no line, or its frame isn't kept.
+pub fn worked_reports()
+    ensures refused { RefusedIsTold }
+    ensures skipped { SkippedIsTold }
+    ensures halt { HaltIsTold }
+    ensures fault { FaultIsCounted }
+    ensures settles { Settles }
+    ensures unsettled { Unsettled }
 {}
 
 /// What a session that conserves took away, on a side where its mode wants a licence: each entry that one of its cycles removed or replaced
@@ -36,4 +52,15 @@ pub fn the_last_frame_may_be_lost()
 /// base of each later cycle counts all frames before it. A crash may leave a frame whose append was refused.
 pub fn a_refused_frame_may_be_found()
     ensures { MayFindOneMore }
+{}
+
+/// A root whose tree is closed under parents agrees with its look. At and below each path in a folder that the look shows: what it shows as tracked stands
+/// there, with that atom, and a file with its stamp; what it shows otherwise stands there too; and nothing else stands there, but below what isn't tracked.
+/// This is what a change that nobody disturbs may begin on.
+///
+/// What the look shows is part of a tree. What stands and isn't shown lies below something that is shown and isn't tracked.
+pub fn states_agree_with_their_look()
+    ensures agrees { StateAgreesWithLook }
+    ensures tree { LookIsTree }
+    ensures hidden { HiddenIsBelowUntracked }
 {}
