@@ -61,7 +61,7 @@ module _ (session : Session) (g : Ground) (c : Cycle) (u : Unlogged) where
 
   -- AN OUTCOME HAS ITS CAUSE. Too many rows and a halt are told exactly where they are, but for want of memory, which is free.
   abbrev pub has_cause : Outcome → Bool
-  has_cause outcome.Done = may_go_on && not is_decided
+  has_cause outcome.Done = may_go_on && not (is_decided || u.append_failed)
   has_cause (outcome.Halted why) = is_halted_by why
   has_cause outcome.Stopped = u.stopped && not is_decided
   has_cause (outcome.TooMany side) = has_too_many side

@@ -1,5 +1,5 @@
 -- Which problems a cycle's plan and its log give.
-use Rattle.std.specs.Prelude.{Bool, true, not, ◌&&◌, ◌||◌, List, [], ◌∷◌, ◌++◌, map, is_some, Option, Some, None, if◌then◌else◌}
+use Rattle.std.specs.Prelude.{Bool, not, ◌&&◌, ◌||◌, List, [], ◌∷◌, ◌++◌, map, is_some, Option, Some, None, if◌then◌else◌}
 use Rattle.std.specs.FinMap as map_of
 use Rattle.std.specs.List.{filter_map, find, flat_map, list_all, list_any}
 use Rattle.std.specs.Option.{option_map_or}

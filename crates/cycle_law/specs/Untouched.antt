@@ -14,10 +14,10 @@ use Rattle.roots_api.specs.declared.event.Deed.TheVariants.{Asked, Edited}
 use Rattle.roots_api.specs.declared.event.Event.{Event}
 use Rattle.roots_api.specs.declared.who.Who.{Who}
 use Rattle.roots_api.specs.declared.who.Who.TheVariants.{Editor, Session as OfSession}
-use Rattle.cycle_law.specs.Cycles.{Cycle, Ground, SideLog, Traces}
+use Rattle.cycle_law.specs.Cycles.{Cycle, Ground, SideLog}
 use Rattle.cycle_law.specs.Outcomes.{has_any}
 use Rattle.cycle_law.specs.Plans.{ground_of}
-use Rattle.cycle_law.specs.Unlogged.{Unlogged, unheard_on}
+use Rattle.cycle_law.specs.Unlogged.{Unlogged}
 
 -- The whole logs of the two roots of a session, the oldest events first, by whomever; and the frames of the session.
 pub record WholeLogs : Type 0 where

@@ -1,13 +1,11 @@
 -- Small cycles with their reports, as examples of which are right.
 use Rattle.std.specs.Prelude.{◌≡◌, ℕ, Bool, true, false, List, [], ◌∷◌, ◌++◌, codes, Some, None}
 use Rattle.entry_tree.specs.Tree.{Names}
-use Rattle.entry_tree.specs.declared.atom.Atom.TheVariants as atom
 use Rattle.entry_tree.specs.declared.entry.Entry.{Entry}
 use Rattle.entry_tree.specs.declared.entry.Entry.TheVariants as entry
 use Rattle.entry_tree.specs.declared.side.Side.{Side}
 use Rattle.entry_tree.specs.declared.side.Side.TheVariants.{Alpha, Beta}
 use Rattle.frame_text.specs.declared.payload.Payload.{Payload}
-use Rattle.mode_rules.specs.declared.ancestor_line.AncestorLine.TheVariants.{Set}
 use Rattle.mode_rules.specs.declared.halt.Halt.TheVariants.{RootDeleted}
 use Rattle.mode_rules.specs.declared.problem.Cause.{Cause}
 use Rattle.mode_rules.specs.declared.problem.Cause.TheVariants as cause
@@ -16,12 +14,12 @@ use Rattle.mode_rules.specs.declared.report.CycleReport.{CycleReport}
 use Rattle.mode_rules.specs.declared.report.Outcome.{Outcome}
 use Rattle.mode_rules.specs.declared.report.Outcome.TheVariants as outcome
 use Rattle.roots_api.specs.declared.answer.Answer.TheVariants.{Listed, Held, Differs, Failed}
-use Rattle.roots_api.specs.declared.op.Op.TheVariants.{List as OpList, Fetch, MakeDir, Remove}
+use Rattle.roots_api.specs.declared.op.Op.TheVariants.{List as OpList, MakeDir, Remove}
 use Rattle.cycle_law.specs.Cycles.{Cycle, SideLog}
 use Rattle.cycle_law.specs.Plans.{ground_of}
 use Rattle.cycle_law.specs.Reports.{is_right}
 use Rattle.cycle_law.specs.Unlogged.{Unheard, Unlogged}
-use Rattle.cycle_law.specs.Worked.{a, both_lines, by_cycle, cycle, fetched, file_row, first_frame, lists, log, piece, places, safe, stages, stamp}
+use Rattle.cycle_law.specs.Worked.{a, both_lines, by_cycle, cycle, fetched, file_row, first_frame, lists, log, places, safe, stages, stamp}
 
 abbrev pub calm : Unheard
 calm = record { full = []; starved = []; faults_rose = false; full_rose = false }
@@ -41,19 +39,10 @@ abbrev pub told : SideLog → SideLog → List Payload → Cycle → Bool → Cy
 told alpha beta frames c rose r = is_right safe (ground_of (record { alpha = alpha; beta = beta; frames = frames }) c) c (with_rise rose) r
 
 -- ---- A removal is refused: `a` was deleted on beta, and on alpha it is written anew between the scan and the removal.
-abbrev pub k : Names
-k = codes "k" ∷ []
-
-abbrev pub k_row : List (List ℕ × Entry)
-k_row = (codes "k", entry.File (stamp 1) false) ∷ []
-
-abbrev pub three_lines : Payload
-three_lines = first_frame (Set [] atom.Dir ∷ Set a (atom.File (100 ∷ []) false) ∷ Set k (atom.File (101 ∷ []) false) ∷ [])
-
 abbrev pub refused : CycleReport → Bool
 refused r =
-    told (log (lists 2 ((codes "a", entry.File (stamp 0) false) ∷ k_row) ∷ by_cycle 2 (Remove a (entry.File (stamp 0) false)) (Differs (Some (entry.File (stamp 2) false))) ∷ []))
-    (log (lists 2 k_row ∷ by_cycle 2 (Fetch k (stamp 1) 0) (piece 3) ∷ [])) (three_lines ∷ []) (cycle 2 1 0 1) false r
+    told (log (lists 2 file_row ∷ by_cycle 2 (Remove a (entry.File (stamp 0) false)) (Differs (Some (entry.File (stamp 2) false))) ∷ [])) (log (lists 2 [] ∷ []))
+    (first_frame both_lines ∷ []) (cycle 2 1 0 0) false r
 
 -- Its problem is told. A report that leaves it out isn't right, nor one that gives it another cause, to the other side, or twice.
 abbrev pub RefusedIsTold : Type 0
@@ -64,7 +53,7 @@ RefusedIsTold =
     × (refused (report 2 outcome.Done (problem Beta a cause.Differs ∷ [])) ≡ false)
     × (refused (report 2 outcome.Done (problem Alpha a cause.Differs ∷ problem Alpha a cause.Differs ∷ [])) ≡ false)
 
--- ---- A folder was made meanwhile: alpha has `d/e/f`, beta has nothing, and `d` is made there by somebody else before the cycle makes it.
+-- ---- A folder was made meanwhile: alpha has the folders `d/e/f`, beta has nothing, and `d` is made there by somebody else before the cycle makes it.
 abbrev pub d : Names
 d = codes "d" ∷ []
 
@@ -74,11 +63,13 @@ e = codes "d" ∷ codes "e" ∷ []
 abbrev pub f : Names
 f = codes "d" ∷ codes "e" ∷ codes "f" ∷ []
 
+abbrev pub folder_row : List ℕ → List (List ℕ × Entry)
+folder_row name = (name, entry.Dir) ∷ []
+
 abbrev pub meanwhile : CycleReport → Bool
 meanwhile r =
-    told (log (lists 1 ((codes "d", entry.Dir) ∷ []) ∷ by_cycle 1 (OpList d) (Listed ((codes "e", entry.Dir) ∷ []))
-    ∷ by_cycle 1 (OpList e) (Listed ((codes "f", entry.File (stamp 0) false) ∷ [])) ∷ by_cycle 1 (Fetch f (stamp 0) 0) (piece 3) ∷ by_cycle 1 (Fetch f (stamp 0) 0) (piece 3) ∷ []))
-    (log ((lists 1 [] ∷ stages (100 ∷ [])) ++ (by_cycle 1 (MakeDir d) (Differs (Some entry.Dir)) ∷ []))) [] (cycle 1 0 1 0) false r
+    told (log (lists 1 (folder_row (codes "d")) ∷ by_cycle 1 (OpList d) (Listed (folder_row (codes "e"))) ∷ by_cycle 1 (OpList e) (Listed (folder_row (codes "f"))) ∷ by_cycle 1 (OpList f) (Listed []) ∷ []))
+    (log (lists 1 [] ∷ by_cycle 1 (MakeDir d) (Differs (Some entry.Dir)) ∷ [])) [] (cycle 1 0 0 0) false r
 
 -- What rests on the folder is skipped for it. It isn't right to skip it for the folder between, or to leave one out.
 abbrev pub SkippedIsTold : Type 0

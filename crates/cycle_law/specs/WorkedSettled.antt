@@ -1,5 +1,5 @@
 -- A small session whose first cycle nobody disturbs, as an example of which cycles are settled.
-use Rattle.std.specs.Prelude.{◌≡◌, ℕ, Bool, true, false, List, [], ◌∷◌, codes, None}
+use Rattle.std.specs.Prelude.{◌≡◌, Bool, true, false, List, [], ◌∷◌, codes, None}
 use Rattle.entry_tree.specs.declared.atom.Atom.TheVariants as atom
 use Rattle.entry_tree.specs.declared.entry.Entry.TheVariants as entry
 use Rattle.frame_text.specs.declared.payload.Payload.{Payload}

@@ -14,16 +14,16 @@ returns-clause-skipped c = (simp (maps_of_paths) refl, simp (maps_of_paths) refl
 
 pub returns-clause-halt : goal.returns-clause-halt
 unfolding change_at line_at conflict_at is_in_folders
-returns-clause-halt c = (simp (maps_of_paths) refl, simp (maps_of_paths) refl, simp (maps_of_paths) refl, simp (maps_of_paths) refl)
+returns-clause-halt c = (simp (maps_of_paths) refl, simp (maps_of_paths) refl, refl, simp (maps_of_paths) refl)
 
 pub returns-clause-fault : goal.returns-clause-fault
 unfolding change_at line_at conflict_at is_in_folders
-returns-clause-fault c = (simp (maps_of_paths) refl, simp (maps_of_paths) refl, simp (maps_of_paths) refl, simp (maps_of_paths) refl)
+returns-clause-fault c = (simp (maps_of_paths) refl, refl, refl, simp (maps_of_paths) refl)
 
 pub returns-clause-settles : goal.returns-clause-settles
 unfolding change_at line_at conflict_at is_in_folders
-returns-clause-settles c = (simp (maps_of_paths) refl, simp (maps_of_paths) refl)
+returns-clause-settles c = (refl, simp (maps_of_paths) refl)
 
 pub returns-clause-unsettled : goal.returns-clause-unsettled
 unfolding change_at line_at conflict_at is_in_folders
-returns-clause-unsettled c = (simp (maps_of_paths) refl, simp (maps_of_paths) refl, simp (maps_of_paths) refl, simp (maps_of_paths) refl, simp (maps_of_paths) refl)
+returns-clause-unsettled c = (simp (maps_of_paths) refl, simp (maps_of_paths) refl, simp (maps_of_paths) refl, refl, refl)
