@@ -13,8 +13,8 @@ use Rattle.mode_rules.specs.declared.problem.Problem.{Problem}
 use Rattle.mode_rules.specs.declared.report.CycleReport.{CycleReport}
 use Rattle.mode_rules.specs.declared.report.Outcome.{Outcome}
 use Rattle.mode_rules.specs.declared.report.Outcome.TheVariants as outcome
-use Rattle.roots_api.specs.declared.answer.Answer.TheVariants.{Listed, Held, Differs, Failed}
-use Rattle.roots_api.specs.declared.op.Op.TheVariants.{List as OpList, MakeDir, Remove}
+use Rattle.roots_api.specs.declared.answer.Answer.TheVariants.{Listed, Held, Changed, Cleared, Opened, Differs, Failed}
+use Rattle.roots_api.specs.declared.op.Op.TheVariants.{List as OpList, Fetch, StageClear, StageOpen, MakeDir, Remove}
 use Rattle.cycle_law.specs.Cycles.{Cycle, SideLog}
 use Rattle.cycle_law.specs.Plans.{ground_of}
 use Rattle.cycle_law.specs.Reports.{is_right}
@@ -77,6 +77,21 @@ SkippedIsTold =
     (meanwhile (report 1 outcome.Done (problem Beta d cause.Differs ∷ problem Beta e (cause.Skipped d) ∷ problem Beta f (cause.Skipped d) ∷ [])) ≡ true)
     × (meanwhile (report 1 outcome.Done (problem Beta d cause.Differs ∷ problem Beta e (cause.Skipped d) ∷ problem Beta f (cause.Skipped e) ∷ [])) ≡ false)
     × (meanwhile (report 1 outcome.Done (problem Beta d cause.Differs ∷ problem Beta f (cause.Skipped d) ∷ [])) ≡ false)
+
+-- ---- A file changes while it is staged: on alpha it is written anew between the scan and the Fetch for beta.
+abbrev pub unstaged : CycleReport → Bool
+unstaged r =
+    told (log (lists 1 file_row ∷ fetched 1 ∷ by_cycle 1 (Fetch a (stamp 0) 0) (Changed (Some (entry.File (stamp 1) false))) ∷ []))
+    (log (lists 1 [] ∷ by_cycle 1 StageClear Cleared ∷ by_cycle 1 StageOpen Opened ∷ by_cycle 1 StageClear Cleared ∷ [])) [] (cycle 1 0 1 0) false r
+
+-- The problem is of the side that needs the file, and stands for its Place. It isn't right to give it to the other side, to leave it out, or to tell the
+-- Place too.
+abbrev pub UnstagedIsTold : Type 0
+UnstagedIsTold =
+    (unstaged (report 1 outcome.Done (problem Beta a cause.Changed ∷ [])) ≡ true)
+    × (unstaged (report 1 outcome.Done (problem Alpha a cause.Changed ∷ [])) ≡ false)
+    × (unstaged (report 1 outcome.Done []) ≡ false)
+    × (unstaged (report 1 outcome.Done (problem Beta a cause.Changed ∷ problem Beta a cause.NotStaged ∷ [])) ≡ false)
 
 -- ---- Alpha's root was deleted.
 abbrev pub deleted : CycleReport → Bool

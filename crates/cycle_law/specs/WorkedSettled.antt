@@ -40,15 +40,13 @@ settled events frames = is_settled safe 1 (with_beta events frames) (cycle 1 0 0
 abbrev pub untouched : List Event → Bool
 untouched events = is_untouched 1 (cycle 1 0 0 0) (with_beta events (both_folders ∷ [])) (with_rise false)
 
--- Nobody disturbed it, and it is settled.
+-- Nobody disturbed it, and it is settled. It isn't where the folder isn't made, or has no line, or the frame isn't kept. An edit before its last event
+-- disturbs it, and one behind that doesn't.
 abbrev pub Settles : Type 0
-Settles = (untouched (made_here ∷ []) ≡ true) × (settled (made_here ∷ []) (both_folders ∷ []) ≡ true)
-
--- It isn't settled where the folder isn't made, or has no line, or the frame isn't kept. An edit before its last event disturbs it, and one behind that
--- doesn't.
-abbrev pub Unsettled : Type 0
-Unsettled =
-    (settled [] (both_folders ∷ []) ≡ false)
+Settles =
+    (untouched (made_here ∷ []) ≡ true)
+    × (settled (made_here ∷ []) (both_folders ∷ []) ≡ true)
+    × (settled [] (both_folders ∷ []) ≡ false)
     × (settled (made_here ∷ []) (first_frame (Set [] atom.Dir ∷ []) ∷ []) ≡ false)
     × (settled (made_here ∷ []) [] ≡ false)
     × (untouched (made_there ∷ made_here ∷ []) ≡ false)

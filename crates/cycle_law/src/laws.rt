@@ -2,8 +2,8 @@
 ghost use Rattle.cycle_law.specs.Laws.{EachCycle, ForgetsItsLast, MayFindOneMore, NamesWhatWasHeld, TakesTheAncestors};
 ghost use Rattle.cycle_law.specs.LookLaws.{HiddenIsBelowUntracked, LookIsTree, StateAgreesWithLook};
 ghost use Rattle.cycle_law.specs.Worked.{DeletionTravels, FrameIsUnsound, HaltedChanges, HaltedRests, PlaceIsWrong, ShownIsRemoved};
-ghost use Rattle.cycle_law.specs.WorkedReports.{FaultIsCounted, HaltIsTold, RefusedIsTold, SkippedIsTold};
-ghost use Rattle.cycle_law.specs.WorkedSettled.{Settles, Unsettled};
+ghost use Rattle.cycle_law.specs.WorkedReports.{FaultIsCounted, HaltIsTold, RefusedIsTold, SkippedIsTold, UnstagedIsTold};
+ghost use Rattle.cycle_law.specs.WorkedSettled.{Settles};
 
 /// Small sessions, as examples of the definitions. A file and its deletion travel to the other side, which conserves; and so it does
 /// that a halted cycle changes nothing. These don't: a file is removed that the other side still shows; a frame lacks an agreed line,
@@ -18,16 +18,16 @@ pub fn worked_sessions()
 {}
 
 /// Small cycles with their reports, as examples of what is right and what is settled. A removal that is refused is told, and what is skipped, and for which
-/// path; a report isn't right that leaves a problem out, gives it another cause, another side, or twice. A halt is told, and no other end but want of memory. A
-/// fault is told only where the count of that root's faults rose. A cycle that nobody disturbs and that makes a folder is settled; it isn't where the
-/// folder isn't made, has no line, or its frame isn't kept.
+/// path; so is a file that wasn't staged, on the side that needs it. A report isn't right that leaves a problem out, gives it another cause, another side, or
+/// twice. A halt is told, and no other end but want of memory. A fault is told only where the count of that root's faults rose. A cycle that nobody disturbs
+/// and that makes a folder is settled; it isn't where the folder isn't made, has no line, or its frame isn't kept.
 pub fn worked_reports()
     ensures refused { RefusedIsTold }
     ensures skipped { SkippedIsTold }
+    ensures unstaged { UnstagedIsTold }
     ensures halt { HaltIsTold }
     ensures fault { FaultIsCounted }
     ensures settles { Settles }
-    ensures unsettled { Unsettled }
 {}
 
 /// What a session that conserves took away, on a side where its mode wants a licence: each entry that one of its cycles removed or replaced

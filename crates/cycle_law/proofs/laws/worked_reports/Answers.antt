@@ -22,8 +22,8 @@ returns-clause-fault c = (simp (maps_of_paths) refl, refl, refl, simp (maps_of_p
 
 pub returns-clause-settles : goal.returns-clause-settles
 unfolding change_at line_at conflict_at is_in_folders
-returns-clause-settles c = (refl, simp (maps_of_paths) refl)
+returns-clause-settles c = (refl, simp (maps_of_paths) refl, simp (maps_of_paths) refl, simp (maps_of_paths) refl, simp (maps_of_paths) refl, refl, refl)
 
-pub returns-clause-unsettled : goal.returns-clause-unsettled
+pub returns-clause-unstaged : goal.returns-clause-unstaged
 unfolding change_at line_at conflict_at is_in_folders
-returns-clause-unsettled c = (simp (maps_of_paths) refl, simp (maps_of_paths) refl, simp (maps_of_paths) refl, refl, refl)
+returns-clause-unstaged c = (simp (maps_of_paths) refl, simp (maps_of_paths) refl, simp (maps_of_paths) refl, simp (maps_of_paths) refl)
