@@ -11,3 +11,4 @@ pub mod Turns
 pub mod Found
 pub mod Reached
 pub mod Looks
+pub mod Left

@@ -1,4 +1,5 @@
 //! The laws. Each is the contract of a function that does nothing.
+ghost use Rattle.cycle_law.specs.Between.{UndisturbedIsLeft};
 ghost use Rattle.cycle_law.specs.Laws.{EachCycle, ForgetsItsLast, MayFindOneMore, NamesWhatWasHeld, TakesTheAncestors};
 ghost use Rattle.cycle_law.specs.LookLaws.{HiddenIsBelowUntracked, LookIsTree, StateAgreesWithLook};
 ghost use Rattle.cycle_law.specs.Worked.{DeletionTravels, FrameIsUnsound, HaltedChanges, HaltedRests, PlaceIsWrong, ShownIsRemoved};
@@ -63,4 +64,9 @@ pub fn states_agree_with_their_look()
     ensures agrees { StateAgreesWithLook }
     ensures tree { LookIsTree }
     ensures hidden { HiddenIsBelowUntracked }
+{}
+
+/// What a change leaves that nobody disturbs is what a settled cycle is to show at and below the change's path.
+pub fn undisturbed_changes_are_settled()
+    ensures { UndisturbedIsLeft }
 {}
