@@ -12,3 +12,5 @@ pub mod Found
 pub mod Reached
 pub mod Looks
 pub mod Left
+pub mod ReportTests
+pub mod Told

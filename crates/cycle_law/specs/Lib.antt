@@ -9,6 +9,7 @@ pub mod Ordering
 pub mod Outcomes
 pub mod Plans
 pub mod Problems
+pub mod ReportLaws
 pub mod ReportSameness
 pub mod Reports
 pub mod Sameness

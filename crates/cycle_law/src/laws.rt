@@ -2,6 +2,7 @@
 ghost use Rattle.cycle_law.specs.Between.{UndisturbedIsLeft};
 ghost use Rattle.cycle_law.specs.Laws.{EachCycle, ForgetsItsLast, MayFindOneMore, NamesWhatWasHeld, TakesTheAncestors};
 ghost use Rattle.cycle_law.specs.LookLaws.{HiddenIsBelowUntracked, LookIsTree, StateAgreesWithLook};
+ghost use Rattle.cycle_law.specs.ReportLaws.{DoneTellsAll, HaltIsExact};
 ghost use Rattle.cycle_law.specs.Worked.{DeletionTravels, FrameIsUnsound, HaltedChanges, HaltedRests, PlaceIsWrong, ShownIsRemoved};
 ghost use Rattle.cycle_law.specs.WorkedReports.{FaultIsCounted, HaltIsTold, RefusedIsTold, SkippedIsTold, UnstagedIsTold};
 ghost use Rattle.cycle_law.specs.WorkedSettled.{Settles};
@@ -69,4 +70,11 @@ pub fn states_agree_with_their_look()
 /// What a change leaves that nobody disturbs is what a settled cycle is to show at and below the change's path.
 pub fn undisturbed_changes_are_settled()
     ensures { UndisturbedIsLeft }
+{}
+
+/// A right report that says `done` has the plan's conflicts, and just the problems that the scans, the plan and the logs give, in order. Where a plan stands
+/// that is halted, a right report tells that halt, or want of memory.
+pub fn right_reports_tell_all()
+    ensures done { DoneTellsAll }
+    ensures halt { HaltIsExact }
 {}
