@@ -2,7 +2,7 @@
 use Rattle.std.proofs.Common.{◌≡◌, ◌⊎◌, inl, inr, ℕ, ◌<◌, ◌+◌, zero, suc, Bool, true, false, cond, not, ◌&&◌, List, [], ◌∷◌, ◌++◌, length, nat_lt, refl, sym, ap, subst, ◌∙◌, Option, Some, None, option_map, option_and_then, arith}
 use Rattle.std.specs.FinMap as map
 use Rattle.std.specs.Option.{is_some}
-use Rattle.std.proofs.lemmas.Bool.{and_parts, and_from}
+use Rattle.std.proofs.lemmas.Bool.{and_parts}
 use Rattle.std.proofs.lemmas.List.{length-append}
 use Rattle.sha2.specs.Sha256.{sha256}
 use Rattle.finite_maps.proofs.Constructors.{none_is_not_some, some_same}
@@ -17,17 +17,16 @@ use Rattle.entry_tree.specs.declared.entry.Entry.{Entry}
 use Rattle.entry_tree.specs.declared.entry.Entry.TheVariants as entry
 use Rattle.entry_tree.specs.declared.entry.Stamp.{Stamp}
 use Rattle.entry_tree.specs.declared.problem_kind.ProblemKind.TheVariants as problem
-use Rattle.entry_tree.proofs.Paths.{child_below, below_child, under_itself}
+use Rattle.entry_tree.proofs.Paths.{child_below, below_child}
 use Rattle.entry_tree.proofs.Trees.{parent-child, root_or_child}
 use Rattle.ignore_glob.specs.Grammar.{Meaning}
 use Rattle.mode_rules.proofs.Below.{under_both, below_is_under, parent_or_child, folder_above}
 use Rattle.mode_rules.proofs.Changing.{get-subtree-any}
-use Rattle.roots_api.specs.States.{RootState, content_of, missing_parent}
-use Rattle.roots_api.specs.Views.{atom_of}
+use Rattle.roots_api.specs.States.{RootState, content_of}
 use Rattle.scan_core.specs.Board.{left_alone}
 use Rattle.scan_core.specs.Ignoring.{ignores}
-use Rattle.scan_laws.specs.Look.{is_reached, look_as, look_atom, look_at}
-use Rattle.transition_laws.specs.Undisturbed.{Agrees, IsPartOfTree, StandsFor, is_beneath_let_be, is_let_be}
+use Rattle.scan_laws.specs.Look.{is_reached, look_as, look_atom}
+use Rattle.transition_laws.specs.Undisturbed.{Agrees, StandsFor, is_beneath_let_be, is_let_be}
 use Rattle.cycle_law.specs.LookLaws.{IsItsLook, IsInFolder, StateAgreesWithLook, LookIsTree, HiddenIsBelowUntracked}
 use Rattle.cycle_law.specs.Saw.{stamp_seen}
 use Rattle.cycle_law.proofs.Reached.{any_there, reached_child}
