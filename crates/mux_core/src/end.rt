@@ -113,6 +113,13 @@ impl MuxEnd {
         self.queue.advance(count);
     }
 
+    /// Whether it is the near end, which opens the streams. It takes no memory.
+    pub fn is_near(&self) -> bool
+        ensures { result ≡ self.now.near }
+    {
+        self.near
+    }
+
     /// Whether the link was cut. It takes no memory.
     pub fn is_cut(&self) -> bool
         ensures { result ≡ self.now.is_cut }
