@@ -10,7 +10,7 @@
 //! assert_eq!(rt; ancestor.tree().len(), 0);
 //! ```
 //!
-//! The test `an_ancestor_is_the_fold_of_its_frames` makes these calls.
+//! The test `an_ancestor_is_the_fold_of_its_frames` of `text_tests` makes these calls.
 #![tactic(auto)]
 
 mod ancestor;
@@ -30,6 +30,3 @@ pub use ancestor::{Ancestor, OpenError};
 pub use compacting::{OPENED, run_of};
 pub use keeper::{Archive, KeepError, Keeper};
 pub use mem_keeper::{Kept, MemKeeper};
-
-#[cfg(test)]
-mod tests;

@@ -9,7 +9,7 @@
 //! let label = read_label(alloc, b"host=a.b")?;
 //! ```
 //!
-//! The test `words_are_read_and_written` makes these calls.
+//! The test `words_are_read_and_written` of `word_tests` makes these calls.
 #![tactic(auto)]
 
 mod ascii;
@@ -54,6 +54,3 @@ pub use root_name::{MAX_ROOT_NAME_LEN, RootName};
 pub use session::{SessionWord, write_session};
 pub use session_kind::SessionKind;
 pub use stream_side::StreamSide;
-
-#[cfg(test)]
-mod tests;

@@ -15,7 +15,7 @@
 //! assert_eq!(rt; disk.bytes(), b"abXYe\0\0z".as_slice());
 //! ```
 //!
-//! The test `what_is_written_is_read` makes these calls.
+//! The test `what_is_written_is_read` of `disk_tests` makes these calls.
 #![tactic(auto)]
 
 mod disk;
@@ -25,8 +25,6 @@ pub mod laws;
 mod mem_disk;
 mod plan;
 mod tear;
-#[cfg(test)]
-mod tests;
 
 pub use disk::{Disk, Failed, MOST_BYTES};
 pub use file_disk::FileDisk;

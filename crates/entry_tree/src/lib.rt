@@ -10,7 +10,7 @@
 //! assert_eq!(rt; text_of(alloc, &atom)?.as_str(), "link =a%20b");
 //! ```
 //!
-//! The test `a_text_is_an_atom_or_bad_at_one_place` makes these calls.
+//! The test `a_text_is_an_atom_or_bad_at_one_place` of `tree_tests` makes these calls.
 #![tactic(auto)]
 
 mod atom;
@@ -53,8 +53,3 @@ pub use text::{MAX_TEXT_LEN, Text, TextError};
 pub use tree::{Tree, TreeOf};
 pub use tree_error::TreeError;
 pub use walk::Under;
-
-#[cfg(test)]
-mod tests;
-#[cfg(test)]
-mod tree_tests;

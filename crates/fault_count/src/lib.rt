@@ -10,7 +10,7 @@
 //! assert_eq!(rt; count, 42);
 //! ```
 //!
-//! The test `counts_and_stays_at_the_end` makes this call.
+//! The test `counts_and_stays_at_the_end` of `edge_tests` makes this call.
 #![tactic(auto)]
 
 ghost use Rattle.std.specs.Prelude.{◌≡◌, ℕ, ◌+◌, ◌-◌, ◌^◌, ◌≤◌, min};
@@ -23,23 +23,4 @@ pub fn count_fault(count: &mut u64)
     ensures never_falls { count.old ≤ count.new }
 {
     *count = count.saturating_add(1);
-}
-
-#[cfg(test)]
-mod tests {
-    use super::*;
-
-    #[test]
-    fn counts_and_stays_at_the_end(rt: HostRuntime) {
-        for (old, new) in [
-            (0, 1),
-            (41, 42),
-            (u64::MAX - 1, u64::MAX),
-            (u64::MAX, u64::MAX),
-        ] {
-            let mut count = old;
-            count_fault(&mut count);
-            assert_eq!(rt; count, new);
-        }
-    }
 }

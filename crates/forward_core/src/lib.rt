@@ -13,7 +13,7 @@
 //! let opened = session.step(ForwardOp::Link(LinkOp::OpenStream)); // LinkReply::Opened(1)
 //! ```
 //!
-//! The test `a_session_is_paused_and_resumed` makes these calls.
+//! The test `a_session_is_paused_and_resumed` of `stream_tests` makes these calls.
 #![tactic(auto)]
 
 mod forward;
@@ -23,6 +23,3 @@ mod op;
 pub use forward::Forward;
 pub use laws::session_link;
 pub use op::ForwardOp;
-
-#[cfg(test)]
-mod tests;

@@ -13,7 +13,7 @@
 //! assert_eq!(rt; journal.frames().len(), 1);
 //! ```
 //!
-//! The test `an_appended_frame_is_found` makes these calls.
+//! The test `an_appended_frame_is_found` of `disk_tests` makes these calls.
 #![tactic(auto)]
 
 mod commit;
@@ -24,8 +24,6 @@ mod journal;
 pub mod laws;
 mod settling;
 mod standing;
-#[cfg(test)]
-mod tests;
 
 pub use error::{AppendError, OpenError};
 pub use frames::{Ending, Frames, whole_frames};

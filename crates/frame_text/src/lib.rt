@@ -10,7 +10,7 @@
 //! assert_eq!(rt; text_of(alloc, &payload)?.as_str(), "v2 agree 1 2\nset . dir");
 //! ```
 //!
-//! The test `bytes_are_a_payload_or_none` makes these calls.
+//! The test `bytes_are_a_payload_or_none` of `text_tests` makes these calls.
 #![tactic(auto)]
 
 mod cutting;
@@ -30,6 +30,3 @@ pub use payload::{Payload, PayloadError};
 pub use read::read_payload;
 pub use version::Version;
 pub use write::text_of;
-
-#[cfg(test)]
-mod tests;

@@ -15,7 +15,7 @@
 //! assert!(rt; pattern.matches(&path, is_dir));
 //! ```
 //!
-//! The test `which_paths_match` makes these calls.
+//! The test `which_paths_match` of `ignore_tests` makes these calls.
 #![tactic(auto)]
 
 mod fault;
@@ -34,6 +34,3 @@ pub use limits::{MAX_PARTS, MAX_PLACE};
 pub use pattern::Pattern;
 pub use pattern_error::{BadPattern, PatternError};
 pub use piece::{Glob, Part, Piece};
-
-#[cfg(test)]
-mod tests;

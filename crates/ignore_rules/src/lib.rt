@@ -14,7 +14,7 @@
 //! assert!(rt; !rules.decide(&path, is_dir));
 //! ```
 //!
-//! The test `the_last_pattern_that_matches_decides` makes these calls.
+//! The test `the_last_pattern_that_matches_decides` of `ignore_tests` makes these calls.
 #![tactic(auto)]
 
 mod rule_error;
@@ -23,6 +23,3 @@ mod vcs;
 
 pub use rule_error::{BadRule, RuleError};
 pub use rules::{MAX_RULES, Rules};
-
-#[cfg(test)]
-mod tests;

@@ -13,7 +13,7 @@
 //! let end = words.next(alloc)?; // None
 //! ```
 //!
-//! The test `lines_are_read_in_two_ways` makes these calls.
+//! The test `lines_are_read_in_two_ways` of `word_tests` makes these calls.
 #![tactic(auto)]
 
 mod byte;
@@ -35,6 +35,3 @@ pub use number::{read_number, read_u32, read_usize};
 pub use reading::Reading;
 pub use word::Word;
 pub use words::Words;
-
-#[cfg(test)]
-mod tests;

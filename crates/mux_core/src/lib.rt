@@ -17,7 +17,7 @@
 //! let data = end.outgoing(100_000)?; // four Data frames, 65,564 bytes
 //! ```
 //!
-//! The test `no_more_is_written_or_opened_than_is_allowed` makes these calls.
+//! The test `no_more_is_written_or_opened_than_is_allowed` of `stream_tests` makes these calls.
 #![tactic(auto)]
 
 mod answer;
@@ -40,6 +40,3 @@ pub use end::MuxEnd;
 pub use error::{MuxError, OpenError};
 pub use opening::MAX_LIVE;
 pub use stream::WINDOW;
-
-#[cfg(test)]
-mod tests;

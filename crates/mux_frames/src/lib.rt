@@ -13,7 +13,7 @@
 //! assert!(rt; reader.feed(alloc, &[9]).err() == want);
 //! ```
 //!
-//! The test `a_bad_byte_is_found_at_its_place_and_the_answer_stays` makes these calls, a byte at a time.
+//! The test `a_bad_byte_is_found_at_its_place_and_the_answer_stays` of `stream_tests` makes these calls, a byte at a time.
 #![tactic(auto)]
 
 mod batch;
@@ -41,6 +41,3 @@ pub use stream_id::StreamId;
 pub use window_amount::WindowAmount;
 pub use wire::{MAX_AMOUNT, MAX_FRAME, MAX_PAYLOAD};
 pub use write::{append_data, write_frame};
-
-#[cfg(test)]
-mod tests;

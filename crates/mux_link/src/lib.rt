@@ -15,7 +15,7 @@
 //! let read = pair.step(LinkOp::Read(Side2::Far, 1, 16_384)); // LinkReply::Read of 16,384 bytes
 //! ```
 //!
-//! The test `each_step_answers_as_it_should` makes these calls.
+//! The test `each_step_answers_as_it_should` of `stream_tests` makes these calls.
 #![tactic(auto)]
 
 mod calls;
@@ -32,6 +32,3 @@ pub use op::{LinkBytes, LinkOp};
 pub use pair::MuxPair;
 pub use reply::LinkReply;
 pub use side::Side2;
-
-#[cfg(test)]
-mod tests;

@@ -16,7 +16,7 @@
 //! let end = reader.next(alloc, &mut source)?; // None
 //! ```
 //!
-//! The test `lines_however_the_input_is_cut` makes these calls.
+//! The test `lines_however_the_input_is_cut` of `edge_tests` makes these calls.
 #![tactic(auto)]
 
 mod calls;
@@ -58,6 +58,3 @@ pub use std_sink::StdSink;
 pub use std_source::StdSource;
 pub use system_dice::SystemDice;
 pub use tick::Tick;
-
-#[cfg(test)]
-mod tests;

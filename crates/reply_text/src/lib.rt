@@ -9,7 +9,7 @@
 //! assert_eq!(rt; text.as_str(), "refused 30 bad-line 5\n");
 //! ```
 //!
-//! The test `replies_have_one_spelling` makes this call.
+//! The test `replies_have_one_spelling` of `text_tests` makes this call.
 #![tactic(auto)]
 
 mod conflict_row;
@@ -34,6 +34,3 @@ pub use reply_lines::write_reply;
 pub use report_rows::ReportRows;
 pub use stream_read::StreamRead;
 pub use sync_row::{SyncRow, SyncState};
-
-#[cfg(test)]
-mod tests;

@@ -31,8 +31,8 @@ pub fn write_reply(alloc: Global, reply: &Reply) -> Result<String, AllocError>
     Ok(text)
 }
 
-/// Writes a reply behind a text, as [`write_reply`] does.
-pub(crate) fn push_reply(text: &mut String, reply: &Reply) -> Result<(), AllocError>
+// Writes a reply behind a text, as `write_reply` does.
+fn push_reply(text: &mut String, reply: &Reply) -> Result<(), AllocError>
     ensures { OnOk result (string_bytes text.new ≡ string_bytes text.old ++ reply_bytes reply.now) }
 {
     match reply {

@@ -4,8 +4,8 @@ use request_text::{BadLine, LineError, read_request, write_request};
 use std::alloc::{AllocError, Global};
 use std::test::Fail;
 
-// What a line is read as: its canonical line, or the place at which it is bad.
-fn answer(alloc: Global, line: &str) -> Result<String, AllocError> {
+/// What a line is read as: its canonical line, or the place at which it is bad.
+pub fn answer(alloc: Global, line: &str) -> Result<String, AllocError> {
     match read_request(alloc, line.as_bytes()) {
         Ok(asked) => write_request(alloc, &asked),
         Err(LineError::Bad(BadLine { place })) => bad(alloc, place),

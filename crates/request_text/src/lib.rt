@@ -10,8 +10,9 @@
 //! let line = write_request(alloc, &asked)?; // `@c 7 sync flush s`
 //! ```
 //!
-//! The test `each_freedom_is_read_and_each_place_told` makes these calls. [`Setting`], [`SyncOptions`] and [`ForwardOptions`] are public
-//! because `specs/Given.antt`, by which a reader of a law goes, speaks of them; no call takes or gives them.
+//! The test `each_freedom_is_read_and_each_place_told` of `request_tests` makes these calls. [`Setting`], [`SyncOptions`] and
+//! [`ForwardOptions`] are public because `specs/Given.antt`, by which a reader of a law goes, speaks of them; no call takes or gives
+//! them.
 //!
 //! A new line is a row of `words_of`, a variant of [`Request`], and a place of the reader for each word that isn't read yet
 //! (`place.rt`, with its row of `Goes` in `specs/Places.antt`).
@@ -58,6 +59,3 @@ pub use skipped::is_skipped;
 pub use stream_end::StreamEnd;
 pub use target::Target;
 pub use write::write_request;
-
-#[cfg(test)]
-mod tests;

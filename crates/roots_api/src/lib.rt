@@ -14,7 +14,7 @@
 //! assert_eq!(rt; stamps.get(&path), Some(Stamp(5)));
 //! ```
 //!
-//! The test `stamps_by_path` makes these calls. The documentation of `mem_roots` shows a root that is edited.
+//! The test `stamps_by_path` of `roots_tests` makes these calls. The documentation of `mem_roots` shows a root that is edited.
 #![tactic(auto)]
 
 mod answer;
@@ -55,6 +55,3 @@ pub use rows::Rows;
 pub use stamps::Stamps;
 pub use tracked::Tracked;
 pub use who::Who;
-
-#[cfg(test)]
-mod tests;

@@ -9,7 +9,7 @@
 //! let known = cache.lookup(&path, Stamp(7));
 //! ```
 //!
-//! The test `learns_and_finds` makes these calls.
+//! The test `learns_and_finds` of `scan_tests` makes these calls.
 #![tactic(auto)]
 
 mod cache;
@@ -17,6 +17,3 @@ mod line;
 
 pub use cache::Cache;
 pub use line::Line;
-
-#[cfg(test)]
-mod tests;

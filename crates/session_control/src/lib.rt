@@ -4,7 +4,7 @@
 //! let next = Control::next(table.find(id), ancestor.served(), false);
 //! ```
 //!
-//! The test `each_standing_has_its_next` makes these calls.
+//! The test `each_standing_has_its_next` of `session_tests` makes these calls.
 #![tactic(auto)]
 
 mod control;
@@ -13,6 +13,3 @@ mod standing;
 pub use control::{Control, Next};
 pub use mode_rules::Phase;
 pub use standing::{Standing, Wish};
-
-#[cfg(test)]
-mod tests;

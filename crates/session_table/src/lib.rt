@@ -9,7 +9,7 @@
 //! let reply = table.step(TableOp::Look { id });
 //! ```
 //!
-//! The test `a_session_is_made_and_looked_at` makes these calls.
+//! The test `a_session_is_made_and_looked_at` of `session_tests` makes these calls.
 #![tactic(auto)]
 
 mod change;
@@ -37,6 +37,3 @@ pub use reply::{CommandReply, ForwardRow, Order, SyncRow, SyncState, TableReply}
 pub use request::{TableQuery, TableRequest};
 pub use session::{MAX_SESSIONS, Row};
 pub use table::{Prepared, Table};
-
-#[cfg(test)]
-mod tests;

@@ -12,7 +12,8 @@ pub enum Way {
     InParts,
 }
 
-fn in_parts(alloc: Global, table: &mut Table, op: &TableOp) -> Result<TableReply, AllocError> {
+/// Does an operation in two parts: prepares it, and applies what was prepared.
+pub fn in_parts(alloc: Global, table: &mut Table, op: &TableOp) -> Result<TableReply, AllocError> {
     let prepared = table.prepare(alloc, op)?;
     Ok(table.apply(prepared))
 }

@@ -14,7 +14,7 @@
 //! assert_eq!(rt; child.write(alloc)?.as_str(), "a/b/c");
 //! ```
 //!
-//! The test `a_child_and_its_parent` makes these calls.
+//! The test `a_child_and_its_parent` of `word_tests` makes these calls.
 #![tactic(auto)]
 
 pub mod laws;
@@ -30,6 +30,3 @@ pub use name::Name;
 pub use names::Names;
 pub use path::Path;
 pub use path_error::{BadPath, PathError};
-
-#[cfg(test)]
-mod tests;

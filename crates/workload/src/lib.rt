@@ -9,7 +9,7 @@
 //! let script = make(alloc, salt, files)?; // begins with the line `edit A dir d0000`
 //! ```
 //!
-//! The test `short_scripts` makes this call.
+//! The test `short_scripts` of `edge_tests` makes this call.
 #![tactic(auto)]
 
 mod pieces;
@@ -17,6 +17,3 @@ mod script;
 mod whole;
 
 pub use whole::{MAX_FILES, make};
-
-#[cfg(test)]
-mod tests;
