@@ -1,5 +1,5 @@
 //! The machine that goes through the operations of a change.
-ghost use Rattle.std.specs.Prelude.{◌≡◌, ◌∷◌, IfOk, Some};
+ghost use Rattle.std.specs.Prelude.{◌≡◌, ◌∷◌, IfOk, Some, length};
 ghost use Rattle.std.specs.Option.{option_copied};
 ghost use Rattle.mode_rules.specs.declared.problem.Cause.{Cause};
 ghost use Rattle.transition_plan.specs.Courses.{course_of, met, next_op, problems_of, taken, without_unstaged};
@@ -85,6 +85,20 @@ impl Steps {
         }
     }
 
+    /// The side on which the change is made. It takes no memory.
+    pub fn side(&self) -> Side
+        ensures { result ≡ self.now.side }
+    {
+        self.side
+    }
+
+    /// How many operations are left: neither answered nor skipped. It takes no memory.
+    pub fn left(&self) -> usize
+        ensures { result ≡ length self.now.rest }
+    {
+        self.rest.len()
+    }
+
     /// The operation that is asked next; none where all are answered or skipped. It takes no memory. Cost: O(1).
     pub fn next(&self) -> Option<&Op>
         ensures { option_copied result ≡ next_op self.now }
@@ -113,6 +127,13 @@ impl Steps {
         ensures { result.now ≡ self.now.landed }
     {
         self.landed.as_slice()
+    }
+
+    /// The lines of the operations that are done, in order; each is moved. It takes no memory.
+    pub fn into_landed(self) -> Vec<AncestorLine>
+        ensures { result.items ≡ self.landed }
+    {
+        self.landed
     }
 
     /// The problems of the operations that weren't done, in order. Cost: the lengths of their paths, and for each that was
