@@ -120,3 +120,15 @@ low_four n =
     let c : n % 4294967296 / 256 % 256 ≡ n / 256 % 256 = omega arith in
     let d : n % 4294967296 % 256 ≡ n % 256 = omega arith in
     rw (a, b, c, d) refl
+
+-- each item of a number's bytes is one
+pub bytes_of_number : (width n : ℕ) → AreBytes (bytes_high_first width n)
+bytes_of_number zero n = tt
+bytes_of_number (suc width) n =
+    let some : 0 < 256 = omega arith in
+    let small : n / 256 ^ width % 256 < 256 = mod-lt (n / 256 ^ width) some in
+    (subst (λ (b : ℕ). b < 256) (sym (byte_at_is width n)) small, bytes_of_number width n)
+
+pub bytes_of_field : (width n : ℕ) → AreBytes (number_field width n)
+unfolding number_field
+bytes_of_field width n = bytes_of_number width n

@@ -3,3 +3,11 @@ pub mod Messages
 pub mod Kinds
 pub mod Reading
 pub mod Bodies
+pub mod Streams
+pub mod Readers
+pub mod Characters
+pub mod PathPlaces
+pub mod FieldPlaces
+pub mod Sizes
+pub mod Behinds
+pub mod Places

@@ -18,14 +18,20 @@
 //! The test `a_request_is_written_and_read` makes these calls.
 #![tactic(auto)]
 
+mod behind;
+mod character;
+mod field_place;
 mod kept;
 mod kind;
 pub mod laws;
 mod limits;
 mod message;
+mod path_place;
+mod place;
 mod read;
 mod read_fields;
 mod read_reply;
+mod sizes;
 mod wire;
 mod write;
 mod write_fields;
