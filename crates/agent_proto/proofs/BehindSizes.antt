@@ -18,6 +18,7 @@ use Rattle.agent_proto.specs.declared.sizes.Sizes.{Sizes}
 use Rattle.agent_proto.specs.FieldPlaces.{field_step, taken, IsPlace}
 use Rattle.agent_proto.specs.Sizes.{Has, of_size, between, field_sizes}
 use Rattle.agent_proto.specs.Behinds.{then_taken, rows_taken, replaced_taken, bit_taken_then, behind_taken, entry_sizes, behind_sizes}
+use Rattle.agent_proto.proofs.Comparisons.{suc_zero}
 use Rattle.agent_proto.proofs.Found.{some_is}
 use Rattle.agent_proto.proofs.Sums.{Meet}
 use Rattle.agent_proto.proofs.FieldSizes.{Fits, fits, Filled, fills, then_found}
@@ -151,17 +152,17 @@ file_bit_measures = then_measures (Found wanted.File) (bit_taken_then Some) (of_
 
 path_measures : (walk : List ℕ → Option (List ℕ)) (t : Sizes) → t.one ≤ t.low → t.low ≤ t.high → t.low ≤ t.one + 4000 → Measures walk t → Measures (then_taken (Size measured.Path 2 0) walk) (between (2 + t.one) (4098 + t.high))
 path_measures walk t first range gap m =
-    then_measures (Size measured.Path 2 0) walk t (between (2 + t.one) (4098 + t.high)) (omega arith, omega arith, omega arith)
+    then_measures (Size measured.Path 2 0) walk t (between (2 + t.one) (4098 + t.high)) (omega arith, omega arith, omega arith, omega arith, omega arith)
     (wide_law (field_sizes (Size measured.Path 2 0)) t refl (omega arith) first range (omega (arith, gap))) m
 
 text_measures : (walk : List ℕ → Option (List ℕ)) (t : Sizes) → t.one ≤ t.low → t.low ≤ t.high → t.low ≤ t.one + 4000 → Measures walk t → Measures (then_taken (Size measured.Text 2 0) walk) (between (3 + t.one) (4098 + t.high))
 text_measures walk t first range gap m =
-    then_measures (Size measured.Text 2 0) walk t (between (3 + t.one) (4098 + t.high)) (omega arith, omega arith, omega arith)
+    then_measures (Size measured.Text 2 0) walk t (between (3 + t.one) (4098 + t.high)) (omega arith, omega arith, omega arith, omega arith, omega arith)
     (wide_law (field_sizes (Size measured.Text 2 0)) t refl (omega arith) first range (omega (arith, gap))) m
 
 bytes_measures : Measures (then_taken (Size measured.Bytes 4 0) Some) (between 4 4294967299)
 bytes_measures =
-    then_measures (Size measured.Bytes 4 0) Some (of_size 0) (between 4 4294967299) (omega arith, omega arith, omega arith)
+    then_measures (Size measured.Bytes 4 0) Some (of_size 0) (between 4 4294967299) (omega arith, omega arith, omega arith, omega arith, omega arith)
     (wide_law (field_sizes (Size measured.Bytes 4 0)) (of_size 0) refl (omega arith) (omega arith) (omega arith) (omega arith)) nothing_measures
 
 -- ---- rows
@@ -170,7 +171,8 @@ entry_rows : (rows : ℕ) → IsSum entry_sizes (between (4 * rows) (4356 * rows
 entry_rows zero = entry_alone
 entry_rows (suc rows) =
     let sum = wide_law (between (4 * suc rows) (4356 * suc rows)) entry_sizes refl (omega arith) (omega arith) (omega arith) (omega arith) in
-    turned (between (4 * suc rows) (4356 * suc rows)) entry_sizes (between (4 * suc rows + 1) (4356 * suc rows + 4099)) sum
+    subst (λ z. IsSum entry_sizes (between (4 * suc rows) (4356 * suc rows)) (cond z entry_sizes (between (4 * suc rows + 1) (4356 * suc rows + 4099)))) (sym (suc_zero rows))
+    (turned (between (4 * suc rows) (4356 * suc rows)) entry_sizes (between (4 * suc rows + 1) (4356 * suc rows + 4099)) sum)
 
 name_rows : (rows : ℕ) → IsSum (field_sizes (Size measured.Name 2 0)) (behind_sizes (behind.Entry rows)) (between (4 * suc rows) (4356 * suc rows))
 name_rows zero = wide_law (field_sizes (Size measured.Name 2 0)) entry_sizes refl (omega arith) (omega arith) (omega arith) (omega arith)
@@ -179,8 +181,9 @@ name_rows (suc rows) =
     let sum = wide_law (field_sizes (Size measured.Name 2 0)) t refl (omega arith) (omega arith) (omega arith) (omega arith) in
     let low : 3 + (4 * suc rows + 1) ≡ 4 * suc (suc rows) = omega arith in
     let high : 257 + (4356 * suc rows + 4099) ≡ 4356 * suc (suc rows) = omega arith in
-    subst (λ (k : ℕ). IsSum (field_sizes (Size measured.Name 2 0)) t (between (4 * suc (suc rows)) k)) high
-    (subst (λ (k : ℕ). IsSum (field_sizes (Size measured.Name 2 0)) t (between k (257 + (4356 * suc rows + 4099)))) low sum)
+    subst (λ z. IsSum (field_sizes (Size measured.Name 2 0)) (cond z entry_sizes t) (between (4 * suc (suc rows)) (4356 * suc (suc rows)))) (sym (suc_zero rows))
+    (subst (λ (k : ℕ). IsSum (field_sizes (Size measured.Name 2 0)) t (between (4 * suc (suc rows)) k)) high
+    (subst (λ (k : ℕ). IsSum (field_sizes (Size measured.Name 2 0)) t (between k (257 + (4356 * suc rows + 4099)))) low sum))
 
 entry_measures : (rows : ℕ) → Measures (rows_taken rows) (between (4 * rows) (4356 * rows)) → Measures (then_taken (Found wanted.There) (rows_taken rows)) (behind_sizes (behind.Entry rows))
 entry_measures rows m = then_measures (Found wanted.There) (rows_taken rows) (between (4 * rows) (4356 * rows)) (behind_sizes (behind.Entry rows)) tt (entry_rows rows) m
@@ -188,7 +191,7 @@ entry_measures rows m = then_measures (Found wanted.There) (rows_taken rows) (be
 pub rows_measures : (rows : ℕ) → Measures (rows_taken rows) (between (4 * rows) (4356 * rows))
 rows_measures zero = nothing_measures
 rows_measures (suc rows) =
-    then_measures (Size measured.Name 2 0) (λ rest. then_taken (Found wanted.There) (rows_taken rows) rest) (behind_sizes (behind.Entry rows)) (between (4 * suc rows) (4356 * suc rows)) (omega arith, omega arith, omega arith)
+    then_measures (Size measured.Name 2 0) (λ rest. then_taken (Found wanted.There) (rows_taken rows) rest) (behind_sizes (behind.Entry rows)) (between (4 * suc rows) (4356 * suc rows)) (omega arith, omega arith, omega arith, omega arith, omega arith)
     (name_rows rows) (entry_measures rows (rows_measures rows))
 
 -- ---- all

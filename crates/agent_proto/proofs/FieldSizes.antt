@@ -25,6 +25,7 @@ use Rattle.agent_proto.specs.PathPlaces.{name_start, is_good_name, ends_path, ca
 use Rattle.agent_proto.specs.FieldPlaces.{may_be_none, may_be_dir, may_be_link, may_be_other, width, least_size, most_size, some_bytes, behind_size, worth, found_step, done_step, field_step, taken, IsPlace}
 use Rattle.agent_proto.specs.Reading.{bit_of, bit_in}
 use Rattle.agent_proto.specs.Sizes.{Has, of_size, between, measured_sizes, found_sizes, field_sizes}
+use Rattle.agent_proto.proofs.Comparisons.{suc_zero}
 use Rattle.agent_proto.proofs.Found.{some_is, cond_found, and_then_found}
 use Rattle.agent_proto.proofs.PathRoom.{Room, room_of, CanEnd, reaches, Onward, onward, no_due}
 use Rattle.agent_proto.proofs.FieldWalks.{left_of, front_left, front_if, any_taken, then_bit_taken, path_taken, text_taken, behind, behind_digits, size_taken, worth_is}
@@ -65,8 +66,10 @@ pub record Fits (field : FieldPlace) (bytes rest : List ℕ) : Type 0 where
   pub sum : size + length rest ≡ length bytes
 
 behind_len : (m : Measured) (size : ℕ) (bytes rest : List ℕ) → taken (behind_size m size) bytes ≡ Some rest → 1 ≤ size ⊎ (least_size m ≡ 0) → size + length rest ≡ length bytes
-behind_len measured.Path zero bytes rest e some = let same : bytes ≡ rest = some_is bytes rest e in ap length (sym same)
-behind_len measured.Path (suc size) bytes rest e some = if_len (ends_path (Some (name_start 63))) (suc size) bytes rest (sym (path_taken size (name_start 63) bytes) ∙ e)
+behind_len measured.Path zero bytes rest e some = let same : bytes ≡ rest = some_is bytes rest e in omega (arith, ap length same)
+behind_len measured.Path (suc size) bytes rest e some =
+    if_len (ends_path (Some (name_start 63))) (suc size) bytes rest
+    (sym (ap (λ z. taken (cond z Whole (On (Path (name_start 63) (suc size)))) bytes) (suc_zero size) ∙ path_taken size (name_start 63) bytes) ∙ e)
 behind_len measured.Name zero bytes rest e some = absurd (elim some [ inl h ↦ omega (arith, h) | inr h ↦ omega (arith, h) ])
 behind_len measured.Name (suc size) bytes rest e some = if_len (ends_path (Some (name_start 0))) (suc size) bytes rest (sym (path_taken size (name_start 0) bytes) ∙ e)
 behind_len measured.Text zero bytes rest e some = absurd (elim some [ inl h ↦ omega (arith, h) | inr h ↦ omega (arith, h) ])
@@ -105,7 +108,7 @@ size_fits m due value bytes rest few each e =
     }
 
 -- which entries may have these sizes
-not_file : Wanted → Bool
+abbrev not_file : Wanted → Bool
 not_file wanted.File = false
 not_file _ = true
 
@@ -199,14 +202,7 @@ fits (AnyThenBit count) bytes rest ok each e = record { size = count + 1; has = 
 fits (Found w) bytes rest ok each e = found_fits w bytes rest each e
 fits Done bytes rest ok each e = done_fits bytes rest e
 fits (Size m zero value) bytes rest ok each e = absurd (omega (arith, ok.0))
-fits (Size m (suc due) value) bytes rest ok each e = size_fits m due value bytes rest (few m ok.1) each e
-  where
-    few : (m : Measured) → suc due ≤ width m → due ≤ 3
-    few measured.Path h = omega (arith, h)
-    few measured.Name h = omega (arith, h)
-    few measured.Text h = omega (arith, h)
-    few measured.Bytes h = omega (arith, h)
-    few measured.Piece h = omega (arith, h)
+fits (Size m (suc due) value) bytes rest ok each e = size_fits m due value bytes rest (omega (arith, ok.1)) each e
 fits (Path p zero) bytes rest ok each e = absurd (omega (arith, ok.0))
 fits (Path p (suc left)) bytes rest ok each e = record { size = suc left; has = inl refl; sum = if_len (ends_path (Some p)) (suc left) bytes rest (sym (path_taken left p bytes) ∙ e) }
 fits (Text begun zero) bytes rest ok each e = absurd (omega (arith, ok.0))
@@ -214,7 +210,7 @@ fits (Text begun (suc left)) bytes rest ok each e = record { size = suc left; ha
 
 -- ---- each number
 
-zeros : ℕ → List ℕ
+abbrev zeros : ℕ → List ℕ
 zeros zero = []
 zeros (suc n) = 0 ∷ zeros n
 
@@ -291,7 +287,8 @@ some_bytes_fills size = record { bytes = zeros size; len = zeros_len size; each 
 
 behind_fills : (m : Measured) (size : ℕ) → least_size m ≤ size → size ≤ most_size m → Filled (behind_size m size) size
 behind_fills measured.Path zero least most = record { bytes = []; len = refl; each = tt; is = refl }
-behind_fills measured.Path (suc size) least most = path_fills (name_start 63) size (omega arith) (start_room 63 (suc size) (omega arith) (omega (arith, most)))
+behind_fills measured.Path (suc size) least most =
+    subst (λ z. Filled (cond z Whole (On (Path (name_start 63) (suc size)))) (suc size)) (sym (suc_zero size)) (path_fills (name_start 63) size (omega arith) (start_room 63 (suc size) (omega arith) (omega (arith, most))))
 behind_fills measured.Name zero least most = absurd (omega (arith, least))
 behind_fills measured.Name (suc size) least most = path_fills (name_start 0) size (omega arith) (start_room 0 (suc size) (omega arith) (omega (arith, most)))
 behind_fills measured.Text zero least most = absurd (omega (arith, least))
@@ -352,7 +349,8 @@ bit_fills : (count : ℕ) → taken (On (AnyThenBit count)) (zeros (suc count)) 
 bit_fills zero = refl
 bit_fills (suc count) =
     let one_less : suc count - 1 ≡ count = omega arith in
-    ap (λ (n : ℕ). taken (On (AnyThenBit n)) (zeros (suc count))) one_less ∙ bit_fills count
+    ap (λ z. taken (cond z (cond (nat_le 0 1) Whole Refused) (On (AnyThenBit (suc count - 1)))) (zeros (suc count))) (suc_zero count)
+    ∙ ap (λ (n : ℕ). taken (On (AnyThenBit n)) (zeros (suc count))) one_less ∙ bit_fills count
 
 -- behind a byte
 byte_fills : (w : Wanted) (b size : ℕ) (next : Next) → b < 256 → found_step w b ≡ next → Filled next size → Filled (On (Found w)) (suc size)
@@ -409,14 +407,7 @@ fills (AnyThenBit count) n ok has =
 fills (Found w) n ok has = found_fills w n has
 fills Done n ok has = done_fills n has
 fills (Size m zero value) n ok has = absurd (omega (arith, ok.0))
-fills (Size m (suc due) value) n ok has = size_fills m due value n (few m ok.1) (subst (λ (p : ℕ). value * p ≤ most_size m) (worth_is (suc due) (omega (arith, few m ok.1))) ok.2) has
-  where
-    few : (m : Measured) → suc due ≤ width m → due ≤ 3
-    few measured.Path h = omega (arith, h)
-    few measured.Name h = omega (arith, h)
-    few measured.Text h = omega (arith, h)
-    few measured.Bytes h = omega (arith, h)
-    few measured.Piece h = omega (arith, h)
+fills (Size m (suc due) value) n ok has = size_fills m due value n (omega (arith, ok.1)) (subst (λ (p : ℕ). value * p ≤ most_size m) (worth_is (suc due) ok.1) ok.4) has
 fills (Path p zero) n ok has = absurd (omega (arith, ok.0))
 fills (Path p (suc left)) n ok has = subst (λ (k : ℕ). Filled (On (Path p (suc left))) k) (same_size (suc left) n has) (path_fills p left ok.2 (room_of (bytes_due p.begun) p.len (suc left) p.names (is_good_name p) ok.4))
 fills (Text begun zero) n ok has = absurd (omega (arith, ok.0))

@@ -29,6 +29,7 @@ use Rattle.agent_proto.specs.PathPlaces.{name_start, is_good_name, is_name_end, 
 use Rattle.agent_proto.specs.FieldPlaces.{may_be_none, may_be_dir, may_be_link, may_be_other, width, least_size, most_size, worth, some_bytes, behind_size, size_step, any_step, bit_step, whole_if, link_if, found_step, done_step, path_left, path_next, text_left, text_next, field_step, taken}
 use Rattle.agent_proto.specs.Messages.{may_be_replaced}
 use Rattle.agent_proto.specs.Reading.{mapped, made, both, byte_in, front_in, number_in, sized_in, bit_of, bit_in, stamp_of, stamp_in, text_in, found_by, found_in, entry_by, replaced_by, entry_in, replaced_in, tracked_in, file_in, done_by, done_in}
+use Rattle.agent_proto.proofs.Comparisons.{le_suc, le_none, le_zero, suc_zero}
 use Rattle.agent_proto.proofs.PathRoom.{Room, room_of, has_room_of, CanEnd, within, step_len, no_due, step_due, whole_is}
 
 -- ---- what a reader leaves
@@ -43,11 +44,11 @@ left_mapped f (Some p) = refl
 pub left_both : {V W : Type 0} (a : List ℕ → Option (V × List ℕ)) (b : List ℕ → Option (W × List ℕ)) (bytes : List ℕ) → left_of (both a b bytes) ≡ option_and_then (λ rest. left_of (b rest)) (left_of (a bytes))
 left_both {V} {W} a b bytes = by_first (a bytes)
   where
-    by_second : (v : V) (second : Option (W × List ℕ)) → left_of (option_map (λ q. ((v, q.0), q.1)) second) ≡ left_of second
+    by_second : (v : V) (second : Option (W × List ℕ)) → left_of {V = V × W} (option_map (λ (q : W × List ℕ). ((v, q.0), q.1)) second) ≡ left_of second
     by_second v None = refl
     by_second v (Some q) = refl
 
-    by_first : (first : Option (V × List ℕ)) → left_of (option_and_then (λ p. option_map (λ q. ((p.0, q.0), q.1)) (b p.1)) first) ≡ option_and_then (λ rest. left_of (b rest)) (left_of first)
+    by_first : (first : Option (V × List ℕ)) → left_of {V = V × W} (option_and_then (λ (p : V × List ℕ). option_map (λ (q : W × List ℕ). ((p.0, q.0), q.1)) (b p.1)) first) ≡ option_and_then (λ rest. left_of (b rest)) (left_of first)
     by_first None = refl
     by_first (Some p) = by_second p.0 (b p.1)
 
@@ -63,18 +64,6 @@ left_front size bytes = by_test (nat_le size (length bytes))
     by_test false = refl
 
 -- ---- tests
-
-pub le_suc : (a b : ℕ) → nat_le (suc a) (suc b) ≡ nat_le a b
-le_suc a b = elim (leb_tells a b) [
-  | inl p ↦ (let h = p.1 in let e : nat_le (suc a) (suc b) ≡ true = grind (arith, nat_tests, h) in e) ∙ sym p.0
-  | inr p ↦ (let h = p.1 in let e : nat_le (suc a) (suc b) ≡ false = grind (arith, nat_tests, h) in e) ∙ sym p.0
-]
-
-le_none : (a : ℕ) → nat_le (suc a) 0 ≡ false
-le_none a = grind (arith, nat_tests)
-
-pub le_zero : (a : ℕ) → nat_le 0 a ≡ true
-le_zero a = grind (arith, nat_tests)
 
 pub front_none : (size : ℕ) → front_left (suc size) [] ≡ None
 front_none size = ap (λ t. cond t (Some (drop (suc size) [])) None) (le_none size)
@@ -116,7 +105,8 @@ then_bit_taken zero bytes = bit_taken bytes ∙ sym (ap (option_and_then (λ res
 then_bit_taken (suc count) [] = sym (ap (option_and_then (λ rest. left_of (bit_in rest))) (front_none count))
 then_bit_taken (suc count) (b ∷ bytes) =
     let one_less : suc count - 1 ≡ count = omega arith in
-    ap (λ (n : ℕ). taken (On (AnyThenBit n)) bytes) one_less ∙ then_bit_taken count bytes ∙ sym (ap (option_and_then (λ rest. left_of (bit_in rest))) (front_some count b bytes))
+    ap (λ t. taken (cond t (cond (nat_le b 1) Whole Refused) (On (AnyThenBit (suc count - 1)))) bytes) (suc_zero count)
+    ∙ ap (λ (n : ℕ). taken (On (AnyThenBit n)) bytes) one_less ∙ then_bit_taken count bytes ∙ sym (ap (option_and_then (λ rest. left_of (bit_in rest))) (front_some count b bytes))
 
 -- ---- texts
 
@@ -169,7 +159,7 @@ path_taken size p (b ∷ bytes) =
     by_left zero q short can later =
         let test : (nat_le 0 (length bytes) && ends_path (Some q) []) ≡ true = rw (le_zero (length bytes), ends_there q can) refl in
         sym (ap (λ t. cond t (Some bytes) None) test)
-    by_left (suc k) q short can later = later k refl
+    by_left (suc k) q short can later = ap (λ t. taken (cond t Whole (On (Path q (suc k)))) bytes) (suc_zero k) ∙ later k refl
 
     by_can : (n : ℕ) (q : PathPlace) (can : Bool) → q.len ≤ 255 → can_end q n ≡ can → ((k : ℕ) → suc k ≡ n → taken (On (Path q (suc k))) bytes ≡ front_if (ends_path (Some q)) (suc k) bytes)
         → taken (cond can (cond (n == 0) Whole (On (Path q n))) Refused) bytes ≡ front_if (ends_path (Some q)) n bytes
@@ -199,7 +189,7 @@ text_within (b ∷ bytes) begun e = by_step (char_step begun b) refl e (text_wit
           | inr d ↦ omega (arith, d, rest)
         ]
 
-text_taken : (size : ℕ) (begun : Begun) (bytes : List ℕ) → taken (On (Text begun (suc size))) bytes ≡ front_if (ends_whole (Some begun)) (suc size) bytes
+pub text_taken : (size : ℕ) (begun : Begun) (bytes : List ℕ) → taken (On (Text begun (suc size))) bytes ≡ front_if (ends_whole (Some begun)) (suc size) bytes
 text_taken size begun [] = sym (front_if_none (ends_whole (Some begun)) size)
 text_taken size begun (b ∷ bytes) =
     let one_less : suc size - 1 ≡ size = omega arith in
@@ -212,7 +202,7 @@ text_taken size begun (b ∷ bytes) =
         let whole : is_whole t ≡ true = ap is_whole (no_due t none) in
         let test : (nat_le 0 (length bytes) && is_whole t) ≡ true = rw (le_zero (length bytes), whole) refl in
         sym (ap (λ x. cond x (Some bytes) None) test)
-    by_left (suc k) t can later = later k
+    by_left (suc k) t can later = ap (λ z. taken (cond z Whole (On (Text t (suc k)))) bytes) (suc_zero k) ∙ later k
 
     by_can : (n : ℕ) (t : Begun) (can : Bool) → nat_le (bytes_due t) n ≡ can → ((k : ℕ) → taken (On (Text t (suc k))) bytes ≡ front_if (ends_whole (Some t)) (suc k) bytes)
         → taken (cond can (cond (n == 0) Whole (On (Text t n))) Refused) bytes ≡ front_if (ends_whole (Some t)) n bytes
@@ -271,10 +261,14 @@ size_next m zero value bytes few later =
     ap (λ (n : ℕ). taken (cond (nat_le n (most_size m)) (cond (nat_le (least_size m) value) (behind_size m value) Refused) Refused) bytes) one
     ∙ two_tests (nat_le value (most_size m)) (nat_le (least_size m) value) (behind_size m value) bytes
     ∙ sym (ap (λ t. cond t (behind m value bytes) None) (le_zero (length bytes)))
-size_next m (suc due) value bytes few later = elim (leb_tells (value * worth (suc due)) (most_size m)) [
-  | inl p ↦ ap (λ t. taken (cond t (On (Size m (suc due) value)) Refused) bytes) p.0 ∙ later due refl
-  | inr p ↦ ap (λ t. taken (cond t (On (Size m (suc due) value)) Refused) bytes) p.0 ∙ sym (too_high m (suc due) value bytes few p.1)
-]
+size_next m (suc due) value bytes few later =
+    let high = nat_le (value * worth (suc due)) (most_size m) in
+    let whole : size_step m (suc due) value ≡ cond high (On (Size m (suc due) value)) Refused =
+    ap (λ z. cond high (cond z (cond (nat_le (least_size m) value) (behind_size m value) Refused) (On (Size m (suc due) value))) Refused) (suc_zero due) in
+    ap (λ x. taken x bytes) whole ∙ (elim (leb_tells (value * worth (suc due)) (most_size m)) [
+      | inl p ↦ ap (λ t. taken (cond t (On (Size m (suc due) value)) Refused) bytes) p.0 ∙ later due refl
+      | inr p ↦ ap (λ t. taken (cond t (On (Size m (suc due) value)) Refused) bytes) p.0 ∙ sym (too_high m (suc due) value bytes few p.1)
+    ])
 
 pub size_taken : (m : Measured) (due value : ℕ) (bytes : List ℕ) → due ≤ 3 → taken (On (Size m (suc due) value)) bytes ≡ behind_digits m (suc due) value bytes
 size_taken m due value [] few = sym (ap (λ t. cond t (behind m (value_from value (take (suc due) [])) (drop (suc due) [])) None) (le_none due))
@@ -377,7 +371,7 @@ file_left_if wanted.File (Some p) = refl
 link_left_if : (w : Wanted) (read : Option (List ℕ × List ℕ)) → left_if (passes w) (mapped (λ text. Some (Link text)) read) ≡ cond (may_be_link w) (left_of read) None
 link_left_if w None = none (may_be_link w)
   where
-    none : (b : Bool) → None ≡ cond b None None
+    none : (b : Bool) → ◌≡◌ {A = Option (List ℕ)} None (cond b None None)
     none true = refl
     none false = refl
 link_left_if w (Some p) = ap (λ t. cond t (Some p.1) None) (link_passes w p.0)

@@ -26,7 +26,8 @@ use Rattle.agent_proto.specs.Streams.{IsSent, IsSpelling}
 use Rattle.agent_proto.proofs.Found.{and_then_found}
 use Rattle.agent_proto.proofs.Numbers.{length_of, value_of, field_of}
 use Rattle.agent_proto.proofs.MessageLaws.{whole_there, whole_back}
-use Rattle.agent_proto.proofs.FieldWalks.{worth_is, le_suc}
+use Rattle.agent_proto.proofs.FieldWalks.{worth_is}
+use Rattle.agent_proto.proofs.Comparisons.{le_suc, suc_zero}
 use Rattle.agent_proto.proofs.MeasuredWalks.{bytes_front, bytes_drop}
 use Rattle.agent_proto.proofs.PlaceLaws.{Means, means_along, GoesOn, field_goes_on}
 use Rattle.agent_proto.proofs.StepLaws.{field_means, count_means, count_goes_on}
@@ -57,19 +58,17 @@ head_means (suc zero) value byte ok = by_test (is_length (value * 256 + byte)) r
         absurd cc
 head_means (suc (suc due)) value byte ok =
     let one_less : suc (suc due) - 1 ≡ suc due = omega arith in
-    subst (λ (n : ℕ). Means (in_head n (value * 256 + byte)) (λ bytes. IsRest (Head (suc (suc due)) value) (byte ∷ bytes))) (sym one_less) (by_test (nat_le ((value * 256 + byte) * worth (suc due)) MAX_MESSAGE) refl)
+    subst (λ (n : ℕ). Means (in_head n (value * 256 + byte)) (λ bytes. IsRest (Head (suc (suc due)) value) (byte ∷ bytes))) (sym one_less)
+    (subst (λ z. Means (cond z (cond (is_length (value * 256 + byte)) (On (Kind (value * 256 + byte))) Bad) (cond (nat_le ((value * 256 + byte) * worth (suc due)) MAX_MESSAGE) (On (Head (suc due) (value * 256 + byte))) Bad)) (λ bytes. IsRest (Head (suc (suc due)) value) (byte ∷ bytes))) (sym (suc_zero due)) (by_test (nat_le ((value * 256 + byte) * worth (suc due)) MAX_MESSAGE) refl))
   where
-    v : ℕ
-    v = value * 256 + byte
-
-    by_test : (test : Bool) → nat_le (v * worth (suc due)) MAX_MESSAGE ≡ test → Means (cond (suc due == 0) (cond (is_length v) (On (Kind v)) Bad) (cond test (On (Head (suc due) v)) Bad)) (λ bytes. IsRest (Head (suc (suc due)) value) (byte ∷ bytes))
-    by_test true is = ((omega arith, (let h = ok.1.0 in omega (arith, h), leb-true (v * worth (suc due)) MAX_MESSAGE is)), ((λ bytes each rest. (omega (arith, rest.0), rest.1)), (λ bytes each rest. (omega (arith, rest.0), rest.1))))
+    by_test : (test : Bool) → nat_le ((value * 256 + byte) * worth (suc due)) MAX_MESSAGE ≡ test → Means (cond test (On (Head (suc due) (value * 256 + byte))) Bad) (λ bytes. IsRest (Head (suc (suc due)) value) (byte ∷ bytes))
+    by_test true is = ((omega arith, (let h = ok.1.0 in omega (arith, h), leb-true ((value * 256 + byte) * worth (suc due)) MAX_MESSAGE is)), ((λ bytes each rest. (omega (arith, rest.0), rest.1)), (λ bytes each rest. (omega (arith, rest.0), rest.1))))
     by_test false is = λ bytes each rest.
         let long : suc due ≤ length bytes = omega (arith, rest.0) in
         let front : length (take (suc due) bytes) ≡ suc due = length-take-le (suc due) bytes long in
         let w : worth (suc due) ≡ 256 ^ suc due = worth_is (suc due) (let h = ok.1.0 in omega (arith, h)) in
-        let least : v * worth (suc due) ≤ value_from v (take (suc due) bytes) = subst (λ (p : ℕ). v * p ≤ value_from v (take (suc due) bytes)) (sym w) (subst (λ (k : ℕ). v * 256 ^ k ≤ value_from v (take (suc due) bytes)) front (value_from-least v (take (suc due) bytes))) in
-        let most : nat_le (v * worth (suc due)) MAX_MESSAGE ≡ true = le-leb (v * worth (suc due)) MAX_MESSAGE (omega (arith, least, rest.1.0, rest.1.1.0)) in
+        let least : (value * 256 + byte) * worth (suc due) ≤ value_from (value * 256 + byte) (take (suc due) bytes) = subst (λ (p : ℕ). (value * 256 + byte) * p ≤ value_from (value * 256 + byte) (take (suc due) bytes)) (sym w) (subst (λ (k : ℕ). (value * 256 + byte) * 256 ^ k ≤ value_from (value * 256 + byte) (take (suc due) bytes)) front (value_from-least (value * 256 + byte) (take (suc due) bytes))) in
+        let most : nat_le ((value * 256 + byte) * worth (suc due)) MAX_MESSAGE ≡ true = le-leb ((value * 256 + byte) * worth (suc due)) MAX_MESSAGE (omega (arith, least, rest.1.0, rest.1.1.0)) in
         absurd cc
 
 pub place_means : (place : Place) (byte : ℕ) → IsReached place → Means (step place byte) (λ bytes. IsRest place (byte ∷ bytes))

@@ -78,7 +78,7 @@ Goes walk left bytes = (length bytes ≡ left) × (walk bytes ≡ Some [])
 reply_means : (reply : Reply) (left : ℕ) → left ≤ MAX_MESSAGE → Means (reply_start reply left) (Goes (reply_taken reply) left)
 reply_means replies.Listed left fits_ = count_means 4 0 left (omega arith) fits_
 reply_means replies.Held left fits_ = start_means (Found wanted.Any) behind.Nothing left tt tt fits_
-reply_means replies.Piece left fits_ = start_means (Size measured.Piece 4 0) behind.Bit left (omega arith, omega arith, omega arith) tt fits_
+reply_means replies.Piece left fits_ = start_means (Size measured.Piece 4 0) behind.Bit left (omega arith, omega arith, omega arith, omega arith, omega arith) tt fits_
 reply_means replies.Changed left fits_ = start_means (Found wanted.Any) behind.Nothing left tt tt fits_
 reply_means replies.TooLarge left fits_ = start_means (Any 8) behind.Nothing left (omega arith, omega arith) tt fits_
 reply_means replies.Cleared left fits_ = none_means left

@@ -121,7 +121,7 @@ count_left bytes = by_test (nat_le 4 (length bytes)) (rows_left (value (take 4 b
   where
     by_test : (test : Bool) → rows_taken (value (take 4 bytes)) (drop 4 bytes) ≡ left_of (rows_by (value (take 4 bytes)) (drop 4 bytes))
         → cond test (rows_taken (value (take 4 bytes)) (drop 4 bytes)) None
-        ≡ left_of (option_and_then (λ p. rows_by p.0 p.1) (option_map (λ p. (value p.0, p.1)) (cond test (Some (take 4 bytes, drop 4 bytes)) None)))
+        ≡ left_of (option_and_then (λ (p : ℕ × List ℕ). rows_by p.0 p.1) (option_map (λ (p : List ℕ × List ℕ). (value p.0, p.1)) (cond test (Some (take 4 bytes, drop 4 bytes)) None)))
     by_test true same = same
     by_test false same = refl
 

@@ -8,6 +8,7 @@ pub mod Texts
 pub mod Spellings
 pub mod Splitting
 pub mod Running
+pub mod Comparisons
 pub mod Found
 pub mod Characters
 pub mod PathRoom

@@ -28,7 +28,8 @@ use Rattle.agent_proto.specs.FieldPlaces.{width, least_size, most_size, some_byt
 use Rattle.agent_proto.specs.Reading.{made, front_in, number_in, sized_in, is_path, path_by, name_by, text_by, path_in, name_in, text_in, piece_by, piece_in}
 use Rattle.agent_proto.proofs.Characters.{utf8_is}
 use Rattle.agent_proto.proofs.PathWalk.{is_slash, follows, path_is, and_false}
-use Rattle.agent_proto.proofs.FieldWalks.{left_of, front_left, left_front, front_all, any_taken, front_if, path_taken, text_taken, behind, behind_digits, size_taken, le_suc, le_zero, same_bool}
+use Rattle.agent_proto.proofs.FieldWalks.{left_of, front_left, left_front, front_all, any_taken, front_if, path_taken, text_taken, behind, behind_digits, size_taken, same_bool}
+use Rattle.agent_proto.proofs.Comparisons.{le_suc, le_zero, suc_zero}
 
 -- ---- a reader of what is as long as was said
 
@@ -36,7 +37,7 @@ made_sized : {W : Type 0} (by : List ℕ → Option W) (digits : ℕ) (bytes : L
 made_sized by digits bytes = by_test (nat_le digits (length bytes))
   where
     by_test : (test : Bool)
-        → left_of (made by (option_and_then (λ p. front_in p.0 p.1) (option_map (λ p. (value p.0, p.1)) (cond test (Some (take digits bytes, drop digits bytes)) None))))
+        → left_of (made by (option_and_then (λ (p : ℕ × List ℕ). front_in p.0 p.1) (option_map (λ (p : List ℕ × List ℕ). (value p.0, p.1)) (cond test (Some (take digits bytes, drop digits bytes)) None))))
         ≡ cond test (left_of (made by (front_in (value (take digits bytes)) (drop digits bytes)))) None
     by_test true = refl
     by_test false = refl
@@ -103,7 +104,8 @@ path_behind (suc size) bytes =
     (λ text len. path_test text (omega (arith, len)) ∙ ap (λ (n : ℕ). nat_le n 4096 && ends_path (Some (name_start 63)) text) len)
     ∙ test_in (nat_le (suc size) 4096) (ends_path (Some (name_start 63))) (suc size) bytes
     ∙ ap (λ (o : Option (List ℕ)). cond (nat_le (suc size) 4096) o None) (sym (path_taken size (name_start 63) bytes))
-    ∙ sym (both_tests (nat_le (suc size) 4096) (taken (On (Path (name_start 63) (suc size))) bytes))
+    ∙ sym (ap (λ z. cond (nat_le (suc size) 4096 && nat_le 0 (suc size)) (taken (cond z Whole (On (Path (name_start 63) (suc size)))) bytes) None) (suc_zero size)
+    ∙ both_tests (nat_le (suc size) 4096) (taken (On (Path (name_start 63) (suc size))) bytes))
   where
     both_tests : (a : Bool) (o : Option (List ℕ)) → cond (a && nat_le 0 (suc size)) o None ≡ cond a o None
     both_tests true o = ap (λ t. cond t o None) (le_zero (suc size))
@@ -181,7 +183,7 @@ text_behind (suc size) bytes =
 
 pub some_bytes_taken : (size : ℕ) (bytes : List ℕ) → taken (some_bytes size) bytes ≡ front_left size bytes
 some_bytes_taken zero bytes = sym (front_all bytes)
-some_bytes_taken (suc size) bytes = any_taken size bytes
+some_bytes_taken (suc size) bytes = ap (λ z. taken (cond z Whole (On (Any (suc size)))) bytes) (suc_zero size) ∙ any_taken size bytes
 
 bytes_behind : (size : ℕ) (bytes : List ℕ) → size ≤ 4294967295 → front_left size bytes ≡ behind measured.Bytes size bytes
 bytes_behind size bytes fits =
@@ -233,7 +235,7 @@ sized_left : (digits : ℕ) (bytes : List ℕ) → left_of (sized_in digits byte
 sized_left digits bytes = by_test (nat_le digits (length bytes))
   where
     by_test : (test : Bool)
-        → left_of (option_and_then (λ p. front_in p.0 p.1) (option_map (λ p. (value p.0, p.1)) (cond test (Some (take digits bytes, drop digits bytes)) None)))
+        → left_of (option_and_then (λ (p : ℕ × List ℕ). front_in p.0 p.1) (option_map (λ (p : List ℕ × List ℕ). (value p.0, p.1)) (cond test (Some (take digits bytes, drop digits bytes)) None)))
         ≡ cond test (left_of (front_in (value (take digits bytes)) (drop digits bytes))) None
     by_test true = refl
     by_test false = refl

@@ -15,6 +15,7 @@ use Rattle.agent_proto.specs.declared.path_place.PathPlace.{PathPlace}
 use Rattle.agent_proto.specs.Characters.{char_step, is_whole, ends_whole}
 use Rattle.agent_proto.specs.PathPlaces.{name_start, is_good_name, is_name_end, behind_slash, behind_byte, behind_letter, path_step, ends_path}
 use Rattle.agent_proto.proofs.Characters.{utf8_is}
+use Rattle.agent_proto.proofs.Comparisons.{le_suc, le_none, le_zero, zero_lt}
 
 abbrev pub is_slash : ℕ → Bool
 is_slash b = b == 47
@@ -162,11 +163,12 @@ slash_parts p front (part ∷ parts) rest t some later =
 
     by_cases : (end : Bool) (names : ℕ) → ends_path (cond (end && nat_lt 0 names) (Some (name_start (names - 1))) None) rest ≡ end && (list_all is_name (part ∷ parts) && nat_le (suc (length parts)) names)
     by_cases false names = refl
-    by_cases true zero = sym (and_false (list_all is_name (part ∷ parts)))
+    by_cases true zero = sym (ap (λ t. list_all is_name (part ∷ parts) && t) (le_none (length parts)) ∙ and_false (list_all is_name (part ∷ parts)))
     by_cases true (suc names) =
         let one_less : suc names - 1 ≡ names = omega arith in
-        let fewer : nat_le (length parts) names ≡ nat_le (suc (length parts)) (suc names) = refl in
-        ap (λ (n : ℕ). ends_path (Some (name_start n)) rest) one_less ∙ later names ∙ assoc (is_name part) (list_all is_name parts) (nat_le (length parts) names)
+        ap (λ t. ends_path (cond t (Some (name_start (suc names - 1))) None) rest) (zero_lt names)
+        ∙ ap (λ (n : ℕ). ends_path (Some (name_start n)) rest) one_less ∙ later names ∙ assoc (is_name part) (list_all is_name parts) (nat_le (length parts) names)
+        ∙ ap (λ t. (is_name part && list_all is_name parts) && t) (sym (le_suc (length parts) names))
 
 -- behind a byte of a name
 letter_parts : (p : PathPlace) (front : List ℕ) (b : ℕ) (parts : List (List ℕ)) (rest : List ℕ) → Tracks p front → IsSome parts → (b == 47) ≡ false
@@ -203,7 +205,7 @@ letter_parts p front b (part ∷ parts) rest t some no_slash later = elim (leb_t
 -- the bytes that go on to the end of a path are those whose parts are names
 walk_is : (bytes : List ℕ) (p : PathPlace) (front : List ℕ) → Tracks p front → ends_path (Some p) bytes ≡ follows front p.names (slice_split is_slash bytes)
 walk_is [] p front t =
-    sym (named p front t) ∙ sym (ap is_name (append-nil front)) ∙ sym (and_true_right (is_name (front ++ [])))
+    sym (named p front t) ∙ sym (ap is_name (append-nil front)) ∙ sym (and_true_right (is_name (front ++ []))) ∙ ap (λ t. is_name (front ++ []) && t) (sym (le_zero p.names))
 walk_is (b ∷ bytes) p front t = by_test (b == 47) refl (walk_is bytes)
   where
     by_test : (test : Bool) → (b == 47) ≡ test → ((q : PathPlace) (longer : List ℕ) → Tracks q longer → ends_path (Some q) bytes ≡ follows longer q.names (slice_split is_slash bytes))

@@ -109,24 +109,24 @@ next_ok behind.FileBit few = (tt, tt)
 next_ok behind.Stamped few = ((omega arith, omega arith), tt)
 next_ok behind.BitReplaced few = (omega arith, tt)
 next_ok behind.Placed few = ((omega arith, omega arith), tt)
-next_ok behind.Linked few = ((omega arith, omega arith, omega arith), tt)
-next_ok (behind.Asked requests.List) few = ((omega arith, omega arith, omega arith), tt)
-next_ok (behind.Asked requests.Fetch) few = ((omega arith, omega arith, omega arith), tt)
+next_ok behind.Linked few = ((omega arith, omega arith, omega arith, omega arith, omega arith), tt)
+next_ok (behind.Asked requests.List) few = ((omega arith, omega arith, omega arith, omega arith, omega arith), tt)
+next_ok (behind.Asked requests.Fetch) few = ((omega arith, omega arith, omega arith, omega arith, omega arith), tt)
 next_ok (behind.Asked requests.StageClear) few = tt
 next_ok (behind.Asked requests.StageOpen) few = tt
-next_ok (behind.Asked requests.StageAppend) few = ((omega arith, omega arith, omega arith), tt)
+next_ok (behind.Asked requests.StageAppend) few = ((omega arith, omega arith, omega arith, omega arith, omega arith), tt)
 next_ok (behind.Asked requests.StageKeep) few = ((omega arith, omega arith), tt)
-next_ok (behind.Asked requests.Place) few = ((omega arith, omega arith, omega arith), tt)
-next_ok (behind.Asked requests.MakeDir) few = ((omega arith, omega arith, omega arith), tt)
-next_ok (behind.Asked requests.MakeLink) few = ((omega arith, omega arith, omega arith), tt)
-next_ok (behind.Asked requests.Remove) few = ((omega arith, omega arith, omega arith), tt)
-next_ok (behind.Asked requests.SetExec) few = ((omega arith, omega arith, omega arith), tt)
+next_ok (behind.Asked requests.Place) few = ((omega arith, omega arith, omega arith, omega arith, omega arith), tt)
+next_ok (behind.Asked requests.MakeDir) few = ((omega arith, omega arith, omega arith, omega arith, omega arith), tt)
+next_ok (behind.Asked requests.MakeLink) few = ((omega arith, omega arith, omega arith, omega arith, omega arith), tt)
+next_ok (behind.Asked requests.Remove) few = ((omega arith, omega arith, omega arith, omega arith, omega arith), tt)
+next_ok (behind.Asked requests.SetExec) few = ((omega arith, omega arith, omega arith, omega arith, omega arith), tt)
 next_ok (behind.Entry rows) few = (tt, few)
 next_ok (behind.Rows rows) few = by_test (rows == 0) few
   where
     by_test : (test : Bool) → rows < 2 ^ 40 → IsNextField (cond test None (Some (Size measured.Name 2 0, behind.Entry (rows - 1))))
     by_test true h = tt
-    by_test false h = ((omega arith, omega arith, omega arith), omega (arith, h))
+    by_test false h = ((omega arith, omega arith, omega arith, omega arith, omega arith), omega (arith, h))
 
 abbrev BehindRest : Behind → ℕ → List ℕ → Type 0
 BehindRest b left bytes = (length bytes ≡ left) × (behind_taken b bytes ≡ Some [])
@@ -176,7 +176,7 @@ range_field Done ok = record { some = omega arith }
 range_field (Size m due value) ok =
     let some : 1 ≤ worth due = worth_some due in
     let wide : value * worth due + worth due ≤ (value + 1) * worth due = omega arith in
-    record { some = range_of m (worth due) value some (worth_least due ok.0) ok.2 }
+    record { some = range_of m (worth due) value some (worth_least due ok.0) ok.4 }
   where
     worth_some : (due : ℕ) → 1 ≤ worth due
     worth_some due = grind (arith, nat_tests)

@@ -32,7 +32,8 @@ use Rattle.agent_proto.specs.Places.{count_taken, after, can_count, in_count, in
 use Rattle.agent_proto.specs.Sizes.{Has, between}
 use Rattle.agent_proto.proofs.Found.{cond_found, and_then_found, map_found}
 use Rattle.agent_proto.proofs.PathRoom.{has_room_of, step_len}
-use Rattle.agent_proto.proofs.FieldWalks.{worth_is, le_zero}
+use Rattle.agent_proto.proofs.FieldWalks.{worth_is}
+use Rattle.agent_proto.proofs.Comparisons.{le_zero, suc_zero}
 use Rattle.agent_proto.proofs.MeasuredWalks.{bytes_front, bytes_drop}
 use Rattle.agent_proto.proofs.FieldSizes.{start_room}
 use Rattle.agent_proto.proofs.BehindSizes.{rows_measures, behind_measures}
@@ -55,7 +56,7 @@ found_ok w byte =
     if_next (byte == 0) (whole_if (may_be_none w)) _ (λ _. whole_ok (may_be_none w)) (λ _.
     if_next (byte == 1) (whole_if (may_be_dir w)) _ (λ _. whole_ok (may_be_dir w)) (λ _.
     if_next (byte == 2) (on_field (AnyThenBit 16)) _ (λ _. omega arith) (λ _.
-    if_next (byte == 3) (link_if (may_be_link w)) _ (λ _. if_next (may_be_link w) (on_field (Size measured.Text 2 0)) Refused (λ _. (omega arith, omega arith, omega arith)) (λ _. tt)) (λ _.
+    if_next (byte == 3) (link_if (may_be_link w)) _ (λ _. if_next (may_be_link w) (on_field (Size measured.Text 2 0)) Refused (λ _. (omega arith, omega arith, omega arith, omega arith, omega arith)) (λ _. tt)) (λ _.
     if_next (byte == 4) (whole_if (may_be_other w)) Refused (λ _. whole_ok (may_be_other w)) (λ _. tt)))))
   where
     whole_ok : (may : Bool) → IsNext (whole_if may)
@@ -79,16 +80,29 @@ behind_ok measured.Text size least most = (least, most, omega arith)
 behind_ok measured.Bytes size least most = some_ok size (omega (arith, most))
 behind_ok measured.Piece size least most = some_ok size (omega (arith, most))
 
-size_ok : (m : Measured) (due value : ℕ) → due ≤ width m → IsNext (size_step m due value)
-size_ok m due value few = if_next (nat_le (value * worth due) (most_size m)) _ Refused (λ most.
-    if_next (due == 0) (cond (nat_le (least_size m) value) (behind_size m value) Refused) (on_field (Size m due value))
-    (λ none. if_next (nat_le (least_size m) value) (behind_size m value) Refused (λ least.
-    let zero_ : due ≡ 0 = grind (arith, nat_tests, none) in
+-- a number is at most as great as with bytes behind it
+worth_grows : (due value : ℕ) → due ≤ 4 → value ≤ value * worth due
+worth_grows zero value few = omega arith
+worth_grows (suc zero) value few = omega arith
+worth_grows (suc (suc zero)) value few = omega arith
+worth_grows (suc (suc (suc zero))) value few = omega arith
+worth_grows (suc (suc (suc (suc zero)))) value few = omega arith
+worth_grows (suc (suc (suc (suc (suc n))))) value few = absurd (omega (arith, few))
+
+most_fits : (m : Measured) → most_size m < 2 ^ 32
+most_fits measured.Path = omega arith
+most_fits measured.Name = omega arith
+most_fits measured.Text = omega arith
+most_fits measured.Bytes = omega arith
+most_fits measured.Piece = omega arith
+
+size_ok : (m : Measured) (due value : ℕ) → due ≤ 4 → due ≤ width m → IsNext (size_step m due value)
+size_ok m due value few wide = if_next (nat_le (value * worth due) (most_size m)) _ Refused (λ most.
     let top : value * worth due ≤ most_size m = leb-true (value * worth due) (most_size m) most in
-    let one : worth due ≡ 1 = ap worth zero_ in
-    let plain : value * worth due ≡ value = ap (λ (n : ℕ). value * n) one ∙ (omega arith) in
-    behind_ok m value (leb-true (least_size m) value least) (omega (arith, top, plain))) (λ _. tt))
-    (λ some. let one : 1 ≤ due = grind (arith, nat_tests, some) in (one, few, leb-true (value * worth due) (most_size m) most)))
+    let least_value : value ≤ most_size m = omega (arith, worth_grows due value few, top) in
+    if_next (due == 0) (cond (nat_le (least_size m) value) (behind_size m value) Refused) (on_field (Size m due value))
+    (λ none. if_next (nat_le (least_size m) value) (behind_size m value) Refused (λ least. behind_ok m value (leb-true (least_size m) value least) least_value) (λ _. tt))
+    (λ some. let one : 1 ≤ due = grind (arith, nat_tests, some) in (one, few, wide, omega (arith, least_value, most_fits m), top)))
     (λ _. tt)
 
 step_names : (p q : PathPlace) (b : ℕ) → p.names ≤ 63 → path_step p b ≡ Some q → q.names ≤ 63
@@ -121,7 +135,7 @@ step_ok (Any count) byte ok = any_ok count ok.1
 step_ok (AnyThenBit count) byte ok = bit_ok count byte ok
 step_ok (Found w) byte ok = found_ok w byte
 step_ok Done byte ok = done_ok byte
-step_ok (Size m due value) byte ok = size_ok m (due - 1) (value * 256 + byte) (omega (arith, ok.1))
+step_ok (Size m due value) byte ok = size_ok m (due - 1) (value * 256 + byte) (omega (arith, ok.1)) (omega (arith, ok.2))
 step_ok (Path p left) byte ok = path_ok p byte (left - 1) (omega (arith, ok.1)) ok.3
 step_ok (Text begun left) byte ok = chars_ok (char_step begun byte) (left - 1) (omega (arith, ok.1))
 
@@ -184,7 +198,8 @@ count_means due value left few fits_ = by_test (can_count due value left) refl
       where
         by_due : (k : ℕ) → k ≡ due → can_count due value left ≡ true → value < 2 ^ 32 → Means (cond (k == 0) (after (next_field (behind.Rows value)) left) (On (Count k value left))) (λ bytes. (length bytes ≡ left) × (count_taken k value bytes ≡ Some []))
         by_due zero e can small = means_along (after (next_field (behind.Rows value)) left) _ _ (λ bytes each h. (h.0, ap (λ t. cond t (rows_taken value bytes) None) (le_zero (length bytes)) ∙ h.1)) (λ bytes each h. (h.0, sym (ap (λ t. cond t (rows_taken value bytes) None) (le_zero (length bytes))) ∙ h.1)) (after_means (behind.Rows value) left (omega (arith, small)) fits_)
-        by_due (suc k) e can small = ((omega arith, (omega (arith, few, e), (fits_, (small, subst (λ (n : ℕ). can_count n value left ≡ true) (sym e) can)))), ((λ bytes each rest. rest), (λ bytes each rest. rest)))
+        by_due (suc k) e can small = subst (λ z. Means (cond z (after (next_field (behind.Rows value)) left) (On (Count (suc k) value left))) (λ bytes. (length bytes ≡ left) × (count_taken (suc k) value bytes ≡ Some []))) (sym (suc_zero k))
+            ((omega arith, (omega (arith, few, e), (fits_, (small, subst (λ (n : ℕ). can_count n value left ≡ true) (sym e) can)))), ((λ bytes each rest. rest), (λ bytes each rest. rest)))
 
 pub count_goes_on : (due value left : ℕ) → IsReached (Count due value left) → GoesOn (Count due value left)
 count_goes_on due value left ok =

@@ -141,6 +141,6 @@ IsPlace (Any count) = (1 ≤ count) × (count < 2 ^ 32)
 IsPlace (AnyThenBit count) = count ≤ 16
 IsPlace (Found w) = ⊤
 IsPlace Done = ⊤
-IsPlace (Size m due value) = (1 ≤ due) × (due ≤ width m) × (value * worth due ≤ most_size m)
+IsPlace (Size m due value) = (1 ≤ due) × (due ≤ 4) × (due ≤ width m) × (value < 2 ^ 32) × (value * worth due ≤ most_size m)
 IsPlace (Path p left) = (1 ≤ left) × (left ≤ 4096) × (p.len ≤ 255) × (p.names ≤ 63) × IsTrue (can_end p left)
 IsPlace (Text begun left) = (1 ≤ left) × (left ≤ 4096) × (bytes_due begun ≤ left)

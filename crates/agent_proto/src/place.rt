@@ -1,5 +1,5 @@
 //! Where in a message its first bytes end.
-ghost use Rattle.std.specs.Prelude.{◌≡◌, ◌<◌, ◌≤◌, ◌^◌, ◌×◌};
+ghost use Rattle.std.specs.Prelude.{◌≡◌, ◌<◌, ◌≤◌, ◌^◌};
 ghost use Rattle.agent_proto.specs.Behinds.{AreFew, next_field};
 ghost use Rattle.agent_proto.specs.FieldPlaces.{IsPlace};
 ghost use Rattle.agent_proto.specs.Places.{start, whole_if_none, after, in_field, can_count, in_count, reply_start, other_start, kind_start, is_length, in_head, step, IsReached, IsNext};
