@@ -103,7 +103,7 @@ pub record Measures (walk : List ℕ → Option (List ℕ)) (sizes : Sizes) : Ty
 nothing_measures : Measures Some (of_size 0)
 nothing_measures = record {
   fills = λ n has. let none : n ≡ 0 = elim has [ inl h ↦ h | inr h ↦ omega (arith, h.1) ] in ([], sym none, tt, refl);
-  fits = λ bytes rest each e. (0, inl refl, ap length (sym (some_is bytes rest e)));
+  fits = λ bytes rest each e. let same : length bytes ≡ length rest = ap length (some_is bytes rest e) in (0, inl refl, omega (arith, same));
 }
 
 then_measures : (field : FieldPlace) (walk : List ℕ → Option (List ℕ)) (t u : Sizes) → IsPlace field → IsSum (field_sizes field) t u → Measures walk t → Measures (then_taken field walk) u

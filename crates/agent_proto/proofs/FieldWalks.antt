@@ -299,26 +299,26 @@ cond_left : {X : Type 0} (test : Bool) (x : X) (rest : List ℕ) → left_of (op
 cond_left true x rest = refl
 cond_left false x rest = refl
 
-any_left : (read : Option (Option Entry × List ℕ)) → left_of read ≡ left_if (passes wanted.Any) read
+pub any_left : (read : Option (Option Entry × List ℕ)) → left_of read ≡ left_if (passes wanted.Any) read
 any_left None = refl
 any_left (Some p) = refl
 
-there_left : (read : Option (Option Entry × List ℕ)) → left_of (made (entry_by (λ entry. true)) read) ≡ left_if (passes wanted.There) read
+pub there_left : (read : Option (Option Entry × List ℕ)) → left_of (made (entry_by (λ entry. true)) read) ≡ left_if (passes wanted.There) read
 there_left None = refl
 there_left (Some (None, rest)) = refl
 there_left (Some (Some entry, rest)) = refl
 
-replaced_left : (read : Option (Option Entry × List ℕ)) → left_of (made replaced_by read) ≡ left_if (passes wanted.Replaced) read
+pub replaced_left : (read : Option (Option Entry × List ℕ)) → left_of (made replaced_by read) ≡ left_if (passes wanted.Replaced) read
 replaced_left None = refl
 replaced_left (Some (None, rest)) = refl
 replaced_left (Some (Some entry, rest)) = cond_left (may_be_replaced (Some entry)) (Some entry) rest
 
-tracked_left : (read : Option (Option Entry × List ℕ)) → left_of (made (entry_by is_tracked) read) ≡ left_if (passes wanted.Tracked) read
+pub tracked_left : (read : Option (Option Entry × List ℕ)) → left_of (made (entry_by is_tracked) read) ≡ left_if (passes wanted.Tracked) read
 tracked_left None = refl
 tracked_left (Some (None, rest)) = refl
 tracked_left (Some (Some entry, rest)) = cond_left (is_tracked entry) entry rest
 
-file_left : (read : Option (Option Entry × List ℕ)) → left_of (made (entry_by is_file) read) ≡ left_if (passes wanted.File) read
+pub file_left : (read : Option (Option Entry × List ℕ)) → left_of (made (entry_by is_file) read) ≡ left_if (passes wanted.File) read
 file_left None = refl
 file_left (Some (None, rest)) = refl
 file_left (Some (Some entry, rest)) = cond_left (is_file entry) entry rest

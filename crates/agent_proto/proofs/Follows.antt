@@ -23,6 +23,7 @@ use Rattle.agent_proto.specs.Behinds.{rows_taken}
 use Rattle.agent_proto.specs.Places.{count_taken, can_count, is_length, in_head, in_count, IsRest, IsReached, step}
 use Rattle.agent_proto.specs.Reading.{message_in, whole}
 use Rattle.agent_proto.specs.Streams.{IsSent, IsSpelling}
+use Rattle.agent_proto.specs.Follows.{Follows}
 use Rattle.agent_proto.proofs.Found.{and_then_found}
 use Rattle.agent_proto.proofs.Numbers.{length_of, value_of, field_of}
 use Rattle.agent_proto.proofs.MessageLaws.{whole_there, whole_back}
@@ -36,7 +37,7 @@ use Rattle.agent_proto.proofs.KindLaws.{MessageRest, kind_means, Bodies, body_of
 -- ---- a byte at each place
 
 -- bytes are to come
-field_left : (field : FieldPlace) (b : Behind) (left : ℕ) → IsReached (Field field b left) → 1 ≤ left
+pub field_left : (field : FieldPlace) (b : Behind) (left : ℕ) → IsReached (Field field b left) → 1 ≤ left
 field_left field b left ok = some (field_goes_on field b left ok).bytes (field_goes_on field b left ok).rest
   where
     some : (bytes : List ℕ) → IsRest (Field field b left) bytes → 1 ≤ left
@@ -157,12 +158,6 @@ no_end (Count due value left) ok rest =
 no_end (Field field b left) ok rest = absurd (let e = rest.1 in cc)
 
 -- ---- the bytes that led to a place
-
-pub record Follows (seen : List ℕ) (place : Place) : Type 0 where
-  pub bytes : AreBytes seen
-  pub reached : IsReached place
-  pub goes : (rest : List ℕ) → AreBytes rest → IsRest place rest → IsSpelling (seen ++ rest)
-  pub comes : (rest : List ℕ) → IsSpelling (seen ++ rest) → IsRest place rest
 
 -- the bytes of a message are bytes
 spelled_bytes : (bytes : List ℕ) → IsSpelling bytes → AreBytes bytes

@@ -47,9 +47,13 @@ then_is field a walk b bytes first second =
 -- ---- bytes in parts
 
 front_add : (a b : ℕ) (bytes : List ℕ) → option_and_then (front_left b) (front_left a bytes) ≡ front_left (a + b) bytes
-front_add zero b bytes = ap (option_and_then (front_left b)) (front_all bytes)
-front_add (suc a) b [] = ap (option_and_then (front_left b)) (front_none a) ∙ sym (front_none (a + b))
-front_add (suc a) b (x ∷ bytes) = ap (option_and_then (front_left b)) (front_some a x bytes) ∙ front_add a b bytes ∙ sym (front_some (a + b) x bytes)
+front_add zero b bytes = let e : b ≡ 0 + b = omega arith in ap (option_and_then (front_left b)) (front_all bytes) ∙ ap (λ (n : ℕ). front_left n bytes) e
+front_add (suc a) b [] =
+    let e : suc (a + b) ≡ suc a + b = omega arith in
+    ap (option_and_then (front_left b)) (front_none a) ∙ sym (front_none (a + b)) ∙ ap (λ (n : ℕ). front_left n []) e
+front_add (suc a) b (x ∷ bytes) =
+    let e : suc (a + b) ≡ suc a + b = omega arith in
+    ap (option_and_then (front_left b)) (front_some a x bytes) ∙ front_add a b bytes ∙ sym (front_some (a + b) x bytes) ∙ ap (λ (n : ℕ). front_left n (x ∷ bytes)) e
 
 number_left : (digits : ℕ) (bytes : List ℕ) → left_of (number_in digits bytes) ≡ front_left digits bytes
 number_left digits bytes = left_mapped value (front_in digits bytes) ∙ left_front digits bytes

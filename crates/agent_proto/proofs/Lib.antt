@@ -23,3 +23,4 @@ pub mod PlaceLaws
 pub mod StepLaws
 pub mod KindLaws
 pub mod Follows
+pub mod Walking

@@ -55,7 +55,7 @@ field_meets field b left bytes ok each rest =
     let a = first.sum in
     of_meet (field_sizes field) (behind_sizes b) left (record { first = first.size; second = second.0; has_first = first.has; has_second = second.1; sum = omega (arith, a, second.2, rest.0) })
 
-start_means : (field : FieldPlace) (b : Behind) (left : ℕ) → IsPlace field → AreFew b → left ≤ MAX_MESSAGE → Means (start field b left) (FieldRest field b left)
+pub start_means : (field : FieldPlace) (b : Behind) (left : ℕ) → IsPlace field → AreFew b → left ≤ MAX_MESSAGE → Means (start field b left) (FieldRest field b left)
 start_means field b left ok few fits_ = by_test (meets (field_sizes field) (behind_sizes b) left) refl
   where
     by_test : (test : Bool) → meets (field_sizes field) (behind_sizes b) left ≡ test → Means (cond test (On (Field field b left)) Bad) (FieldRest field b left)
@@ -96,11 +96,11 @@ next_is (behind.Rows (suc rows)) bytes =
     let one_less : suc rows - 1 ≡ rows = omega arith in
     sym (ap (λ t. walk_next (cond t None (Some (Size measured.Name 2 0, behind.Entry (suc rows - 1)))) bytes) some ∙ ap (λ (n : ℕ). walk_next (Some (Size measured.Name 2 0, behind.Entry n)) bytes) one_less)
 
-abbrev IsNextField : Option (FieldPlace × Behind) → Type 0
+abbrev pub IsNextField : Option (FieldPlace × Behind) → Type 0
 IsNextField None = ⊤
 IsNextField (Some next) = IsPlace next.0 × AreFew next.1
 
-next_ok : (b : Behind) → AreFew b → IsNextField (next_field b)
+pub next_ok : (b : Behind) → AreFew b → IsNextField (next_field b)
 next_ok behind.Nothing few = tt
 next_ok behind.Bit few = (omega arith, tt)
 next_ok behind.Replaced few = (tt, tt)

@@ -11,3 +11,4 @@ pub mod FieldPlaces
 pub mod Sizes
 pub mod Behinds
 pub mod Places
+pub mod Follows
