@@ -21,3 +21,6 @@ and_then_found false found x e = absurd cc
 pub map_found : {X Y : Type 0} (f : X → Y) (found : Option X) (y : Y) → option_map f found ≡ Some y → (x : X) × (found ≡ Some x) × (f x ≡ y)
 map_found f None y e = absurd cc
 map_found f (Some x) y e = (x, refl, some_is (f x) y e)
+
+pub none_found : {X : Type 0} (x : X) → None ≡ Some x → ⊥
+none_found x e = absurd cc

@@ -24,3 +24,4 @@ pub mod StepLaws
 pub mod KindLaws
 pub mod Follows
 pub mod Walking
+pub mod Batches

@@ -12,3 +12,5 @@ pub mod Sizes
 pub mod Behinds
 pub mod Places
 pub mod Follows
+pub mod Batches
+pub mod Held

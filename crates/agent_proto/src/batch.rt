@@ -1,6 +1,6 @@
 //! The whole messages at the front of some bytes.
-ghost use Rattle.std.specs.Prelude.{◌≡◌, ◌++◌, drop, IfOk};
-ghost use Rattle.agent_proto.specs.Follows.{Finds, IsSpelt};
+ghost use Rattle.std.specs.Prelude.{IfOk};
+ghost use Rattle.agent_proto.specs.Batches.{Finds, IsSpelt};
 ghost use Rattle.agent_proto.specs.Streams.{IsSpelling};
 
 use crate::message::Message;
@@ -22,7 +22,8 @@ pub(crate) fn message_of(alloc: Global, bytes: &[u8]) -> Result<Message, AllocEr
     requires { IsSpelling bytes.now }
     ensures { IfOk result (IsSpelt bytes.now) }
 {
-    match read_body(alloc, &bytes[4..])? {
+    let (_, body) = bytes.split_at(4);
+    match read_body(alloc, body)? {
         Some(message) => Ok(message),
         None => unreachable!(),
     }
@@ -38,12 +39,13 @@ pub(crate) fn messages_of(
 {
     let mut used = 0usize;
     loop {
-        let rest = &bytes[used..];
+        let (_, rest) = bytes.split_at(used);
         match walk(Place::start(), rest) {
             End::Bad(at) => return Ok(Batch::Bad(used + at)),
             End::On(place) => return Ok(Batch::Whole(messages, used, place)),
             End::Whole(size) => {
-                messages.push(message_of(alloc, &rest[..size])?)?;
+                let (spelling, _) = rest.split_at(size);
+                messages.push(message_of(alloc, spelling)?)?;
                 used += size;
             }
         }

@@ -1,6 +1,7 @@
 //! The bytes of a message that isn't whole yet.
 ghost use Rattle.std.specs.Prelude.{◌≡◌, ◌++◌, length, OnOk, OnErr, IfOk};
-ghost use Rattle.agent_proto.specs.Follows.{IsSpelt};
+ghost use Rattle.agent_proto.specs.Held.{held_bytes};
+ghost use Rattle.agent_proto.specs.Batches.{IsSpelt};
 ghost use Rattle.agent_proto.specs.Streams.{IsSpelling};
 
 use crate::batch::message_of;
@@ -61,5 +62,60 @@ impl Held {
                 Err(error)
             }
         }
+    }
+}
+
+/// The bytes, of which there may be none.
+pub(crate) fn kept(alloc: Global, bytes: &[u8]) -> Result<Option<Held>, AllocError>
+    ensures { IfOk result (λ held. held_bytes held ≡ bytes.now) }
+{
+    if bytes.is_empty() {
+        return Ok(None);
+    }
+    let held = Held::of(alloc, bytes)?;
+    Ok(Some(held))
+}
+
+/// How many bytes are held.
+pub(crate) fn count(held: &Option<Held>) -> usize
+    ensures { result ≡ length (held_bytes held.now) }
+{
+    match held {
+        Some(held) => held.len(),
+        None => 0,
+    }
+}
+
+/// Holds these bytes too.
+pub(crate) fn append(
+    alloc: Global,
+    held: &mut Option<Held>,
+    bytes: &[u8],
+) -> Result<(), AllocError>
+    ensures ok { OnOk result (held_bytes held.new ≡ held_bytes held.old ++ bytes.now) }
+    ensures err { OnErr result (held_bytes held.new ≡ held_bytes held.old) }
+{
+    match held {
+        Some(held) => held.append(bytes),
+        None => {
+            *held = kept(alloc, bytes)?;
+            Ok(())
+        }
+    }
+}
+
+/// The message that is whole with these bytes.
+pub(crate) fn complete(
+    alloc: Global,
+    held: &mut Option<Held>,
+    last: &[u8],
+) -> Result<Message, AllocError>
+    requires { IsSpelling (held_bytes held.old ++ last.now) }
+    ensures ok { IfOk result (IsSpelt (held_bytes held.old ++ last.now)) }
+    ensures err { OnErr result (held_bytes held.new ≡ held_bytes held.old) }
+{
+    match held {
+        Some(held) => held.complete(alloc, last),
+        None => message_of(alloc, last),
     }
 }

@@ -18,9 +18,11 @@
 //! The test `a_request_is_written_and_read` makes these calls.
 #![tactic(auto)]
 
+mod batch;
 mod behind;
 mod character;
 mod field_place;
+mod held;
 mod kept;
 mod kind;
 pub mod laws;
@@ -31,7 +33,9 @@ mod place;
 mod read;
 mod read_fields;
 mod read_reply;
+mod reader;
 mod sizes;
+mod walk;
 mod wire;
 mod write;
 mod write_fields;
@@ -39,6 +43,7 @@ mod write_fields;
 pub use limits::MAX_MESSAGE;
 pub use message::Message;
 pub use read::read_body;
+pub use reader::{FeedError, MessageReader};
 pub use write::{WriteFault, write_answer, write_ask, write_no_memory, write_too_long};
 
 #[cfg(test)]

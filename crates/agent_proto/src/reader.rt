@@ -1,9 +1,12 @@
 //! Reading messages from a stream that comes in pieces.
-ghost use Rattle.std.specs.Prelude.{◌≡◌, ◌++◌, ◌<◌, ◌+◌, ℕ, [], ◌∷◌, length, Some, None, Err, IsOk, IfOk, OnErr, IsErrOf};
-ghost use Rattle.agent_proto.specs.Readers.{held_bytes, FoundBehind};
+ghost use Rattle.std.specs.Prelude.{◌≡◌, ◌++◌, ◌<◌, ◌+◌, ℕ, [], ◌∷◌, drop, length, Some, None, Err, IsOk, IfOk, OnErr, IsErrOf};
+ghost use Rattle.agent_proto.specs.Batches.{TakesIn};
+ghost use Rattle.agent_proto.specs.Follows.{Follows};
+ghost use Rattle.agent_proto.specs.Held.{held_bytes};
+ghost use Rattle.agent_proto.specs.Streams.{IsSpelling};
 
 use crate::batch::{Batch, messages_of};
-use crate::held::Held;
+use crate::held::{Held, append, complete, count, kept};
 use crate::limits::MAX_MESSAGE;
 use crate::message::Message;
 use crate::place::Place;
@@ -49,7 +52,7 @@ impl Model for MessageReader {
     ghost Value = { Reading };
 
     ghost use Rattle.agent_proto.specs.Follows.{Follows};
-    ghost use Rattle.agent_proto.specs.Readers.{held_bytes};
+    ghost use Rattle.agent_proto.specs.Held.{held_bytes};
 
     ghost view = { λ r. record { taken = r.taken; held = held_bytes r.held; bad = r.bad } };
 
@@ -92,8 +95,7 @@ impl MessageReader {
         if let Some(place) = self.bad {
             return Err(FeedError::BadMessage { place });
         }
-        let found = take_in(alloc, &mut self.held, self.place, piece)?;
-        match found {
+        match take_in(alloc, &mut self.held, self.place, piece)? {
             Intake::Bad(offset) => {
                 let place = self.taken.saturating_add(offset as u64);
                 self.bad = Some(place);
@@ -114,4 +116,71 @@ enum Intake {
     Read(Vec<Message>, usize, Place),
     // No message goes on with this byte of those held and of the piece.
     Bad(usize),
+}
+
+// Takes the piece behind the bytes that are held, which led to this place. Want of memory changes nothing.
+fn take_in(
+    alloc: Global,
+    held: &mut Option<Held>,
+    place: Place,
+    piece: &[u8],
+) -> Result<Intake, AllocError>
+    requires { Follows (held_bytes held.old) place }
+    ensures ok { IfOk result (TakesIn (held_bytes held.old) piece.now (held_bytes held.new)) }
+    ensures err { OnErr result (held_bytes held.new ≡ held_bytes held.old) }
+{
+    match walk(place, piece) {
+        End::Bad(at) => Ok(Intake::Bad(count(held) + at)),
+        End::On(place) => {
+            append(alloc, held, piece)?;
+            Ok(Intake::Read(Vec::new(alloc), 0, place))
+        }
+        End::Whole(size) => {
+            let (last, behind) = piece.split_at(size);
+            read_on(alloc, held, last, behind)
+        }
+    }
+}
+
+// With these bytes a message is whole, and the others stand behind it. The held message is read last, so that want of memory
+// changes nothing.
+fn read_on(
+    alloc: Global,
+    held: &mut Option<Held>,
+    last: &[u8],
+    behind: &[u8],
+) -> Result<Intake, AllocError>
+    requires { IsSpelling (held_bytes held.old ++ last.now) }
+    ensures ok { IfOk result (TakesIn (held_bytes held.old) (last.now ++ behind.now) (held_bytes held.new)) }
+    ensures err { OnErr result (held_bytes held.new ≡ held_bytes held.old) }
+{
+    let size = count(held) + last.len();
+    match messages_of(alloc, one(alloc)?, behind)? {
+        Batch::Bad(at) => Ok(Intake::Bad(size + at)),
+        Batch::Whole(mut messages, used, place) => {
+            let (_, left) = behind.split_at(used);
+            let rest = kept(alloc, left)?;
+            let first = complete(alloc, held, last)?;
+            *held = rest;
+            put_first(&mut messages, first);
+            Ok(Intake::Read(messages, size + used, place))
+        }
+    }
+}
+
+// A list with room for a message at its front.
+fn one(alloc: Global) -> Result<Vec<Message>, AllocError>
+    ensures { IfOk result (λ messages. messages.items ≡ Message.NoMemory ∷ []) }
+{
+    let mut messages = Vec::new(alloc);
+    messages.push(Message::NoMemory)?;
+    Ok(messages)
+}
+
+// Puts the message in the place of the first.
+fn put_first(messages: &mut Vec<Message>, first: Message)
+    requires { 0 < length messages.old.items }
+    ensures { messages.new.items ≡ first ∷ drop 1 messages.old.items }
+{
+    messages[0] = first;
 }
