@@ -24,4 +24,5 @@ pub mod StepLaws
 pub mod KindLaws
 pub mod Follows
 pub mod Walking
+pub mod Passing
 pub mod Batches

@@ -164,7 +164,7 @@ in_field_means (on_field field) b left ok few fits_ = start_means field b left o
 
 -- ---- some bytes go on from each place in a field
 
-range_field : (field : FieldPlace) → IsPlace field → IsRange (field_sizes field)
+pub range_field : (field : FieldPlace) → IsPlace field → IsRange (field_sizes field)
 range_field (Any count) ok = record { some = omega arith }
 range_field (AnyThenBit count) ok = record { some = omega arith }
 range_field (Found wanted.Any) ok = record { some = omega arith }
@@ -193,7 +193,7 @@ range_field (Size m due value) ok =
 range_field (Path p left) ok = record { some = omega arith }
 range_field (Text begun left) ok = record { some = omega arith }
 
-range_behind : (b : Behind) → IsRange (behind_sizes b)
+pub range_behind : (b : Behind) → IsRange (behind_sizes b)
 range_behind behind.Nothing = record { some = omega arith }
 range_behind behind.Bit = record { some = omega arith }
 range_behind behind.Replaced = record { some = omega arith }

@@ -32,7 +32,7 @@ one_more seen bytes index less =
     ap (λ (xs : List ℕ). seen ++ xs) longer ∙ sym (append_assoc seen (take index bytes) (get_or bytes index 0 ∷ []))
 
 -- a byte leads to one of the places
-leads : (at then : Place) (byte : ℕ) → IsReached at → step at byte ≡ On then → IsReached then
+pub leads : (at then : Place) (byte : ℕ) → IsReached at → step at byte ≡ On then → IsReached then
 leads at then byte ok is =
     let means : Means (On then) (λ rest. IsRest at (byte ∷ rest)) = subst (λ s. Means s (λ rest. IsRest at (byte ∷ rest))) is (place_means at byte ok) in
     means.0
