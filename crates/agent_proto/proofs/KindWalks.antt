@@ -69,7 +69,7 @@ two_left a b f g bytes first second =
 stamped_left : (bytes : List ℕ) → left_of (both stamp_in (number_in 8) bytes) ≡ front_left 24 bytes
 stamped_left bytes = two_left 16 8 stamp_in (number_in 8) bytes stamp_left (number_left 8)
 
-who_left : (bytes : List ℕ) → left_of (who_in bytes) ≡ front_left 28 bytes
+pub who_left : (bytes : List ℕ) → left_of (who_in bytes) ≡ front_left 28 bytes
 who_left bytes =
     left_mapped (λ who. Session who.0 who.1.0 who.1.1) (both (number_in 16) (both (number_in 4) (number_in 8)) bytes)
     ∙ two_left 16 12 (number_in 16) (both (number_in 4) (number_in 8)) bytes (number_left 16) (λ xs. two_left 4 8 (number_in 4) (number_in 8) xs (number_left 4) (number_left 8))

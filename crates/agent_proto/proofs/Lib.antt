@@ -26,3 +26,4 @@ pub mod Follows
 pub mod Walking
 pub mod Passing
 pub mod Batches
+pub mod Contents

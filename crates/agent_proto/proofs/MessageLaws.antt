@@ -130,7 +130,7 @@ op_back requests.SetExec bytes op rest each e = mapped_back (λ f. ops.SetExec f
 
 -- ---- the fields of each answer
 
-piece_and_bit : Codec (λ f. IsShort f.0 × ⊤) (λ f. bytes_field f.0 ++ bit_field f.1) (both piece_in bit_in)
+pub piece_and_bit : Codec (λ f. IsShort f.0 × ⊤) (λ f. bytes_field f.0 ++ bit_field f.1) (both piece_in bit_in)
 piece_and_bit = both_law IsShort IsAny bytes_field bit_field piece_in bit_in piece_law bit_law
 
 digests_law : Codec (λ f. IsDigest f.0 × IsDigest f.1) (λ f. f.0 ++ f.1) (both (front_in 32) (front_in 32))
@@ -261,7 +261,7 @@ ask_back request bytes message rest each e =
     let whole_is : bytes ≡ (who_field f.0 ++ op_fields f.1) ++ behind = one.1 ∙ ap (λ xs. who_field f.0 ++ xs) two.1 ∙ sym (append_assoc (who_field f.0) (op_fields f.1) behind) in
     ((one.0, two.0.0), ap (λ xs. request_code request ∷ xs) whole_is ∙ ap (λ (k : ℕ). k ∷ ((who_field f.0 ++ op_fields f.1) ++ behind)) two.0.1)) message rest e
 
-message_there : (message : Message) (rest : List ℕ) → HasFields message → message_in (body message ++ rest) ≡ Some (message, rest)
+pub message_there : (message : Message) (rest : List ℕ) → HasFields message → message_in (body message ++ rest) ≡ Some (message, rest)
 message_there (messages.Ask who op) rest ok =
     let bytes = (who_field who ++ op_fields op) ++ rest in
     let who_is : who_in bytes ≡ Some (who, op_fields op ++ rest) = ap who_in (append_assoc (who_field who) (op_fields op) rest) ∙ session_law.there who (op_fields op ++ rest) ok.0 in

@@ -25,7 +25,7 @@ pub fn read_body(alloc: Global, bytes: &[u8]) -> Result<Option<Message>, AllocEr
 }
 
 // The same, by the tables.
-fn read_whole(alloc: Global, bytes: &[u8]) -> Result<Option<Message>, AllocError>
+pub(crate) fn read_whole(alloc: Global, bytes: &[u8]) -> Result<Option<Message>, AllocError>
     ensures { IfOk result (λ message. message ≡ whole (message_in bytes.now)) }
 {
     let mut fields = Fields::of(bytes);
@@ -92,8 +92,8 @@ fn read_ask(
     }
 }
 
-// Who asks.
-fn read_who(fields: &mut Fields<'_>) -> Option<Who>
+/// Who asks.
+pub(crate) fn read_who(fields: &mut Fields<'_>) -> Option<Who>
     ensures { Took who_in fields.old result fields.new }
 {
     let Some(id) = fields.u128() else {

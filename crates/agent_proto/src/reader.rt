@@ -2,7 +2,7 @@
 ghost use Rattle.std.specs.Prelude.{◌≡◌, ◌++◌, ◌<◌, ◌+◌, ℕ, [], ◌∷◌, drop, length, Some, None, Err, IsOk, IfOk, OnErr, IsErrOf};
 ghost use Rattle.agent_proto.specs.Batches.{TakesIn};
 ghost use Rattle.agent_proto.specs.Follows.{Follows};
-ghost use Rattle.agent_proto.specs.Held.{held_bytes};
+ghost use Rattle.agent_proto.specs.Held.{held_bytes, AreHeld};
 ghost use Rattle.agent_proto.specs.Streams.{IsSpelling};
 
 use crate::batch::{Batch, messages_of};
@@ -52,11 +52,11 @@ impl Model for MessageReader {
     ghost Value = { Reading };
 
     ghost use Rattle.agent_proto.specs.Follows.{Follows};
-    ghost use Rattle.agent_proto.specs.Held.{held_bytes};
+    ghost use Rattle.agent_proto.specs.Held.{held_bytes, AreHeld};
 
     ghost view = { λ r. record { taken = r.taken; held = held_bytes r.held; bad = r.bad } };
 
-    ghost invariant = { λ r. Follows (held_bytes r.held) r.place };
+    ghost invariant = { λ r. Follows (held_bytes r.held) r.place × AreHeld r.held };
 }
 
 impl MessageReader {
@@ -125,9 +125,11 @@ fn take_in(
     place: Place,
     piece: &[u8],
 ) -> Result<Intake, AllocError>
-    requires { Follows (held_bytes held.old) place }
+    requires place { Follows (held_bytes held.old) place }
+    requires held { AreHeld held.old }
     ensures ok { IfOk result (TakesIn (held_bytes held.old) piece.now (held_bytes held.new)) }
     ensures err { OnErr result (held_bytes held.new ≡ held_bytes held.old) }
+    ensures held { AreHeld held.new }
 {
     match walk(place, piece) {
         End::Bad(at) => Ok(Intake::Bad(count(held) + at)),
@@ -150,9 +152,11 @@ fn read_on(
     last: &[u8],
     behind: &[u8],
 ) -> Result<Intake, AllocError>
-    requires { IsSpelling (held_bytes held.old ++ last.now) }
+    requires spelled { IsSpelling (held_bytes held.old ++ last.now) }
+    requires held { AreHeld held.old }
     ensures ok { IfOk result (TakesIn (held_bytes held.old) (last.now ++ behind.now) (held_bytes held.new)) }
     ensures err { OnErr result (held_bytes held.new ≡ held_bytes held.old) }
+    ensures held { AreHeld held.new }
 {
     let size = count(held) + last.len();
     match messages_of(alloc, one(alloc)?, behind)? {
