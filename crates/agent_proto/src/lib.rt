@@ -45,6 +45,3 @@ pub use message::Message;
 pub use read::read_body;
 pub use reader::{FeedError, MessageReader};
 pub use write::{WriteFault, write_answer, write_ask, write_no_memory, write_too_long};
-
-#[cfg(test)]
-mod tests;

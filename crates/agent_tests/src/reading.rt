@@ -1,0 +1,121 @@
+//! Tests of the reader: messages in any pieces, and the places of bad bytes.
+ghost use Rattle.std.specs.Prelude.{◌<◌};
+
+use crate::bodies::written;
+use crate::tables::{BAD, BODIES, bytes_of};
+use agent_proto::{FeedError, Message, MessageReader, write_ask};
+use roots_api::{Content, Op, Who};
+use std::alloc::{AllocError, Global};
+use std::test::*;
+
+/// The messages of the bytes, fed in pieces of this size.
+fn fed(alloc: Global, bytes: &[u8], size: usize) -> Result<Vec<Message>, FeedError>
+    requires { 0 < size }
+{
+    let mut reader = MessageReader::new();
+    let mut all = Vec::new(alloc);
+    for piece in bytes.chunks(size) {
+        for message in reader.feed(alloc, piece)? {
+            all.push(message).map_err(AllocError::from)?;
+        }
+    }
+    Ok(all)
+}
+
+/// The bytes of the messages, one behind the other.
+fn spelled(alloc: Global, messages: &[Message]) -> Result<Vec<u8>, Fail> {
+    let mut bytes = Vec::new(alloc);
+    for message in messages {
+        bytes.extend_from_slice(written(alloc, message)?.as_slice())?;
+    }
+    Ok(bytes)
+}
+
+/// A message of each kind, one behind the other.
+fn stream(alloc: Global) -> Result<Vec<u8>, Fail> {
+    let mut bytes = Vec::new(alloc);
+    for digits in BODIES.lines() {
+        let body = bytes_of(alloc, digits)?;
+        bytes.extend_from_slice((body.len() as u32).to_be_bytes().as_slice())?;
+        bytes.extend_from_slice(body.as_slice())?;
+    }
+    Ok(bytes)
+}
+
+#[test]
+fn a_stream_of_all_kinds_is_read_in_pieces_of_any_size(rt: HostRuntime) -> Result<(), Fail> {
+    let bytes = stream(rt.alloc())?;
+    let count = BODIES.lines().count();
+    for size in 1..=bytes.len() {
+        let got = fed(rt.alloc(), bytes.as_slice(), size)?;
+        assert_eq!(rt; got.len(), count, "pieces of {size}");
+        let again = spelled(rt.alloc(), got.as_slice())?;
+        assert_eq!(rt; again.as_slice(), bytes.as_slice(), "pieces of {size}");
+    }
+    Ok(())
+}
+
+/// What a reader answers to the bytes, one at a time, and then to a message more.
+fn one_at_a_time(alloc: Global, bytes: &[u8]) -> Result<Option<(u64, usize)>, FeedError> {
+    let mut reader = MessageReader::new();
+    let mut sound = 0;
+    for byte in bytes {
+        match reader.feed(alloc, &[*byte]) {
+            Ok(_) => sound += 1,
+            Err(FeedError::BadMessage { .. }) => break,
+            Err(FeedError::Memory) => return Err(FeedError::Memory),
+        }
+    }
+    match reader.feed(alloc, &[0, 0, 0, 1, 0x86]) {
+        Err(FeedError::BadMessage { place }) => Ok(Some((place, sound))),
+        Err(FeedError::Memory) => Err(FeedError::Memory),
+        Ok(_) => Ok(None),
+    }
+}
+
+#[test]
+fn a_bad_byte_is_found_at_its_place_and_the_answer_stays(rt: HostRuntime) -> Result<(), Fail> {
+    for digits in BAD.lines() {
+        let bytes = bytes_of(rt.alloc(), digits)?;
+        let (_, front) = bytes.as_slice().split_last().ok_or("a byte")?;
+        let place = front.len();
+        let want = Some(FeedError::BadMessage {
+            place: place as u64,
+        });
+        let whole = fed(rt.alloc(), bytes.as_slice(), 4096).err();
+        assert!(rt; whole == want, "{digits}");
+        let single = one_at_a_time(rt.alloc(), bytes.as_slice())?;
+        assert!(rt; single == Some((place as u64, place)), "{digits}");
+    }
+    Ok(())
+}
+
+/// The number of bytes that this message stages.
+fn staged(message: &Message) -> Option<usize> {
+    match message {
+        Message::Ask(_, Op::StageAppend { bytes }) => Some(bytes.len()),
+        _ => None,
+    }
+}
+
+/// A message that stages so many bytes.
+fn staging(alloc: Global, size: usize) -> Result<Vec<u8>, Fail> {
+    let bytes = Content::from_vec(vec![in alloc; 7u8; size]?);
+    let who = Who::Session {
+        id: 7,
+        run: 1,
+        cycle: 2,
+    };
+    let message = write_ask(alloc, &who, &Op::StageAppend { bytes })?;
+    Ok(Vec::from_slice(alloc, message.as_slice())?)
+}
+
+#[test]
+fn the_longest_message_is_read_in_pieces(rt: HostRuntime) -> Result<(), Fail> {
+    let bytes = staging(rt.alloc(), 67_108_831)?;
+    let got = fed(rt.alloc(), bytes.as_slice(), 65_536)?;
+    let message = got.as_slice().first().ok_or("a message")?;
+    assert_eq!(rt; staged(message), Some(67_108_831));
+    assert_eq!(rt; got.len(), 1);
+    Ok(())
+}
