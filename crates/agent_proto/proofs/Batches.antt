@@ -1,5 +1,5 @@
 -- The messages found so far, one step of the search, and its ends.
-use Rattle.std.proofs.Common.{◌≡◌, ℕ, ◌+◌, ◌<◌, ◌≤◌, List, [], ◌∷◌, ◌++◌, length, take, drop, refl, sym, ap, subst, ◌∙◌, arith, length-drop, length-append, append_assoc, Some, None}
+use Rattle.std.proofs.Common.{◌≡◌, ℕ, ◌+◌, ◌<◌, ◌≤◌, List, [], ◌∷◌, ◌++◌, length, take, drop, refl, sym, ap, subst, ◌∙◌, arith, length-drop, length-append, append_assoc, Some}
 use Rattle.std.specs.Prelude.{Option}
 use Rattle.std.proofs.lemmas.List.{append-nil, take-append-drop, length-take-le, drop_at}
 use Rattle.std.proofs.Math.Seq.{take-add}
@@ -12,7 +12,7 @@ use Rattle.agent_proto.specs.declared.place.Place.{Place}
 use Rattle.agent_proto.specs.Fields.{number_field}
 use Rattle.agent_proto.specs.Messages.{body, spelling}
 use Rattle.agent_proto.specs.Bodies.{ReadsBody}
-use Rattle.agent_proto.specs.Streams.{IsSent, IsSpelling, stream_of, AreSent, IsStream, Splits}
+use Rattle.agent_proto.specs.Streams.{IsSpelling, stream_of, IsStream, Splits}
 use Rattle.agent_proto.specs.declared.walk.End.TheVariants as ends
 use Rattle.agent_proto.specs.Follows.{Follows, Ends}
 use Rattle.agent_proto.specs.Batches.{IsSpelt, Found, Added}

@@ -1,5 +1,5 @@
 -- How many bytes can come behind a field: each number of its sizes, and no other.
-use Rattle.std.proofs.Common.{◌≡◌, ℕ, zero, suc, ◌+◌, ◌-◌, ◌*◌, ◌<◌, ◌≤◌, ◌^◌, Bool, true, false, cond, List, [], ◌∷◌, ◌++◌, length, refl, sym, ◌∙◌, ap, subst, arith, ◌⊎◌, inl, inr, Some, None, length-append}
+use Rattle.std.proofs.Common.{◌≡◌, ℕ, zero, suc, ◌+◌, ◌-◌, ◌*◌, ◌<◌, ◌≤◌, ◌^◌, cond, List, [], ◌∷◌, ◌++◌, length, refl, sym, ◌∙◌, ap, subst, arith, ◌⊎◌, inl, inr, Some, length-append}
 use Rattle.std.specs.Prelude.{Option}
 use Rattle.std.specs.Option.{option_and_then}
 use Rattle.std.proofs.lemmas.Bool.Decides.{leb_tells}
@@ -21,7 +21,7 @@ use Rattle.agent_proto.specs.Behinds.{then_taken, rows_taken, replaced_taken, bi
 use Rattle.agent_proto.proofs.Comparisons.{suc_zero}
 use Rattle.agent_proto.proofs.Found.{some_is}
 use Rattle.agent_proto.proofs.Sums.{Meet}
-use Rattle.agent_proto.proofs.FieldSizes.{Fits, fits, Filled, fills, then_found}
+use Rattle.agent_proto.proofs.FieldSizes.{fits, fills, then_found}
 
 -- ---- walks over bytes with others behind them
 

@@ -1,5 +1,5 @@
 -- Bytes that go on to the end of a character are UTF-8, and no others are.
-use Rattle.std.proofs.Common.{◌≡◌, ℕ, zero, suc, ◌+◌, ◌-◌, ◌*◌, ◌/◌, ◌%◌, ◌<◌, ◌≤◌, Bool, true, false, cond, ◌&&◌, List, [], ◌∷◌, ◌++◌, length, refl, sym, ◌∙◌, ap, subst, arith, inl, inr, append_assoc, Some, None}
+use Rattle.std.proofs.Common.{◌≡◌, ℕ, ◌+◌, ◌-◌, ◌*◌, ◌/◌, ◌%◌, ◌<◌, ◌≤◌, Bool, true, false, cond, List, [], ◌∷◌, ◌++◌, refl, sym, ◌∙◌, ap, subst, arith, inl, inr, append_assoc, Some, None}
 use Rattle.std.specs.Prelude.{Option, IsUtf8, encode_utf8_all, nat_lt, ◌==◌}
 use Rattle.std.specs.Str.{is_utf8, all_scalars}
 use Rattle.std.specs.Char.{IsScalar, encode_utf8}

@@ -1,28 +1,24 @@
 -- A message's content that stands apart from what is before it.
-use Rattle.std.proofs.Common.{◌≡◌, ℕ, zero, suc, ◌+◌, ◌-◌, ◌<◌, ◌≤◌, Bool, true, false, cond, ◌&&◌, List, [], ◌∷◌, ◌++◌, length, get_or, take, drop, refl, sym, ap, subst, ◌∙◌, arith, append_assoc, length-append, length-drop, inl, inr, Some, None, ◌⊎◌}
-use Rattle.std.specs.Prelude.{Option, IsTrue, nat_le, ◌==◌}
-use Rattle.std.specs.Option.{option_and_then}
+use Rattle.std.proofs.Common.{◌≡◌, ℕ, suc, ◌≤◌, Bool, true, false, cond, ◌&&◌, List, [], ◌∷◌, ◌++◌, length, get_or, drop, refl, sym, ap, subst, ◌∙◌, arith, append_assoc, length-append, length-drop, Some, None}
+use Rattle.std.specs.Prelude.{IsTrue, ◌==◌}
 use Rattle.std.proofs.lemmas.Bool.{and_parts, le-leb}
 use Rattle.std.proofs.lemmas.Bool.Decides.{nat_tests}
 use Rattle.std.proofs.lemmas.List.{append-nil, drop_at}
 use Rattle.mux_frames.specs.Numbers.{AreBytes}
-use Rattle.entry_tree.specs.declared.entry.Stamp.{Stamp}
 use Rattle.roots_api.specs.declared.answer.Answer.TheVariants as answers
-use Rattle.roots_api.specs.declared.op.Op.{Op}
 use Rattle.roots_api.specs.declared.op.Op.TheVariants as ops
 use Rattle.roots_api.specs.declared.who.Who.{Who}
 use Rattle.agent_proto.specs.declared.kind.Request.TheVariants as requests
-use Rattle.agent_proto.specs.declared.kind.Reply.TheVariants as replies
 use Rattle.agent_proto.specs.declared.message.Message.{Message}
 use Rattle.agent_proto.specs.declared.message.Message.TheVariants as messages
 use Rattle.agent_proto.specs.Fields.{number_field, bytes_field, bit_field}
-use Rattle.agent_proto.specs.Messages.{body, spelling, who_field}
-use Rattle.agent_proto.specs.Reading.{mapped, both, sized_in, bit_in, piece_in, who_in, op_in, answer_in, ask_in, message_in}
-use Rattle.agent_proto.specs.Streams.{IsSent, IsSpelling}
+use Rattle.agent_proto.specs.Messages.{body, who_field}
+use Rattle.agent_proto.specs.Reading.{mapped, both, sized_in, bit_in, piece_in, who_in, op_in, message_in}
+use Rattle.agent_proto.specs.Streams.{IsSpelling}
 use Rattle.agent_proto.specs.Batches.{IsSpelt}
 use Rattle.agent_proto.specs.Held.{is_append, is_piece}
 use Rattle.agent_proto.proofs.Codecs.{some_is, map_some, both_parts}
-use Rattle.agent_proto.proofs.FieldLaws.{session_law, bytes_law, piece_law, bit_law}
+use Rattle.agent_proto.proofs.FieldLaws.{session_law, bytes_law}
 use Rattle.agent_proto.proofs.FieldWalks.{left_of}
 use Rattle.agent_proto.proofs.KindWalks.{who_left}
 use Rattle.agent_proto.proofs.MeasuredWalks.{bytes_drop}

@@ -1,10 +1,10 @@
 -- How many bytes a field can have: each number of its sizes, and no other.
-use Rattle.std.proofs.Common.{◌≡◌, ℕ, zero, suc, ◌+◌, ◌-◌, ◌*◌, ◌<◌, ◌≤◌, ◌^◌, Bool, true, false, cond, not, ◌&&◌, ◌||◌, List, [], ◌∷◌, ◌++◌, length, take, drop, refl, sym, ◌∙◌, ap, subst, arith, ◌⊎◌, inl, inr, Some, None, length-append, length-drop}
-use Rattle.std.specs.Prelude.{Option, nat_lt, nat_le, ◌==◌, max, min}
+use Rattle.std.proofs.Common.{◌≡◌, ℕ, zero, suc, ◌+◌, ◌-◌, ◌*◌, ◌<◌, ◌≤◌, ◌^◌, Bool, true, false, cond, ◌&&◌, List, [], ◌∷◌, ◌++◌, length, take, drop, refl, sym, ◌∙◌, ap, subst, arith, ◌⊎◌, inl, inr, Some, None, length-append, length-drop}
+use Rattle.std.specs.Prelude.{Option, nat_le, max, min}
 use Rattle.std.specs.Option.{option_map, option_and_then}
 use Rattle.std.proofs.Math.Nat.{pow-succ'}
 use Rattle.std.proofs.lemmas.Bool.{and_parts, leb-true, le-leb}
-use Rattle.std.proofs.lemmas.Bool.Decides.{nat_tests, leb_tells, eqb_tells}
+use Rattle.std.proofs.lemmas.Bool.Decides.{nat_tests}
 use Rattle.std.proofs.lemmas.List.{length-take-le, take_at, drop_at, take_all, nil_from_length}
 use Rattle.mux_frames.specs.Numbers.{value_from, AreBytes}
 use Rattle.mux_frames.proofs.Digits.{AreBytes-append, value_from-least, value_from-most, bytes_between}
@@ -19,16 +19,15 @@ use Rattle.agent_proto.specs.declared.field_place.FieldPlace.{FieldPlace}
 use Rattle.agent_proto.specs.declared.field_place.FieldPlace.TheVariants.{Any, AnyThenBit, Found, Done, Size, Path, Text}
 use Rattle.agent_proto.specs.declared.field_place.Next.{Next}
 use Rattle.agent_proto.specs.declared.field_place.Next.TheVariants.{Refused, Whole, On}
-use Rattle.agent_proto.specs.declared.sizes.Sizes.{Sizes}
 use Rattle.agent_proto.specs.Characters.{char_step, is_whole, bytes_due, ends_whole}
-use Rattle.agent_proto.specs.PathPlaces.{name_start, is_good_name, ends_path, can_end}
-use Rattle.agent_proto.specs.FieldPlaces.{may_be_none, may_be_dir, may_be_link, may_be_other, width, least_size, most_size, some_bytes, behind_size, worth, found_step, done_step, field_step, taken, IsPlace}
+use Rattle.agent_proto.specs.PathPlaces.{name_start, is_good_name, ends_path}
+use Rattle.agent_proto.specs.FieldPlaces.{may_be_none, may_be_dir, may_be_link, may_be_other, least_size, most_size, some_bytes, behind_size, worth, found_step, done_step, taken, IsPlace}
 use Rattle.agent_proto.specs.Reading.{bit_of, bit_in}
 use Rattle.agent_proto.specs.Sizes.{Has, of_size, between, measured_sizes, found_sizes, field_sizes}
 use Rattle.agent_proto.proofs.Comparisons.{suc_zero}
 use Rattle.agent_proto.proofs.Found.{some_is, cond_found, and_then_found}
-use Rattle.agent_proto.proofs.PathRoom.{Room, room_of, CanEnd, reaches, Onward, onward, no_due}
-use Rattle.agent_proto.proofs.FieldWalks.{left_of, front_left, front_if, any_taken, then_bit_taken, path_taken, text_taken, behind, behind_digits, size_taken, worth_is}
+use Rattle.agent_proto.proofs.PathRoom.{room_of, CanEnd, reaches, onward, no_due}
+use Rattle.agent_proto.proofs.FieldWalks.{left_of, front_left, front_if, any_taken, then_bit_taken, path_taken, text_taken, behind, size_taken, worth_is}
 use Rattle.agent_proto.proofs.MeasuredWalks.{some_bytes_taken, bytes_front}
 
 -- ---- what is left is shorter

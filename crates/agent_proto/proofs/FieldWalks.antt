@@ -1,11 +1,9 @@
 -- What the walk over a field's bytes leaves behind it is what the field's reader leaves.
-use Rattle.std.proofs.Common.{◌≡◌, ℕ, zero, suc, ◌+◌, ◌-◌, ◌*◌, ◌<◌, ◌≤◌, ◌^◌, Bool, true, false, cond, not, ◌&&◌, ◌||◌, List, [], ◌∷◌, ◌++◌, length, take, drop, refl, sym, ◌∙◌, ap, subst, arith, ◌⊎◌, inl, inr, Some, None, add-one, eqb}
-use Rattle.std.specs.Prelude.{Option, nat_lt, nat_le, ◌==◌}
+use Rattle.std.proofs.Common.{◌≡◌, ℕ, zero, suc, ◌+◌, ◌-◌, ◌*◌, ◌<◌, ◌≤◌, ◌^◌, Bool, true, false, cond, ◌&&◌, List, [], ◌∷◌, length, take, drop, refl, sym, ◌∙◌, ap, subst, arith, inl, inr, Some, None, eqb}
+use Rattle.std.specs.Prelude.{Option, nat_le, ◌==◌}
 use Rattle.std.specs.Option.{option_map, option_and_then}
-use Rattle.std.specs.List.{list_all, slice_split}
-use Rattle.std.specs.Str.{is_utf8}
-use Rattle.std.proofs.lemmas.Bool.{and_parts, ne_eqb}
-use Rattle.std.proofs.lemmas.Bool.Decides.{nat_tests, leb_tells, eqb_tells}
+use Rattle.std.proofs.lemmas.Bool.{ne_eqb}
+use Rattle.std.proofs.lemmas.Bool.Decides.{nat_tests, leb_tells}
 use Rattle.std.proofs.lemmas.List.{length-take-le}
 use Rattle.mux_frames.specs.Numbers.{value, value_from}
 use Rattle.mux_frames.proofs.Digits.{value_from-least}
@@ -13,24 +11,23 @@ use Rattle.entry_tree.specs.Entry.{is_tracked}
 use Rattle.entry_tree.specs.declared.entry.Entry.{Entry}
 use Rattle.entry_tree.specs.declared.entry.Entry.TheVariants.{Dir, File, Link, Other}
 use Rattle.entry_tree.specs.declared.entry.Stamp.{Stamp}
-use Rattle.roots_api.specs.Expected.{is_leaf, is_file}
+use Rattle.roots_api.specs.Expected.{is_file}
 use Rattle.agent_proto.specs.declared.character.Begun.{Begun}
 use Rattle.agent_proto.specs.declared.path_place.PathPlace.{PathPlace}
 use Rattle.agent_proto.specs.declared.field_place.Wanted.{Wanted}
 use Rattle.agent_proto.specs.declared.field_place.Wanted.TheVariants as wanted
 use Rattle.agent_proto.specs.declared.field_place.Measured.{Measured}
 use Rattle.agent_proto.specs.declared.field_place.Measured.TheVariants as measured
-use Rattle.agent_proto.specs.declared.field_place.FieldPlace.{FieldPlace}
 use Rattle.agent_proto.specs.declared.field_place.FieldPlace.TheVariants.{Any, AnyThenBit, Found, Done, Size, Path, Text}
 use Rattle.agent_proto.specs.declared.field_place.Next.{Next}
 use Rattle.agent_proto.specs.declared.field_place.Next.TheVariants.{Refused, Whole, On}
 use Rattle.agent_proto.specs.Characters.{char_step, is_whole, bytes_due, ends_whole}
-use Rattle.agent_proto.specs.PathPlaces.{name_start, is_good_name, is_name_end, path_step, ends_path, can_end}
-use Rattle.agent_proto.specs.FieldPlaces.{may_be_none, may_be_dir, may_be_link, may_be_other, width, least_size, most_size, worth, some_bytes, behind_size, size_step, any_step, bit_step, whole_if, link_if, found_step, done_step, path_left, path_next, text_left, text_next, field_step, taken}
+use Rattle.agent_proto.specs.PathPlaces.{is_good_name, is_name_end, path_step, ends_path, can_end}
+use Rattle.agent_proto.specs.FieldPlaces.{may_be_none, may_be_dir, may_be_link, may_be_other, least_size, most_size, worth, behind_size, size_step, whole_if, link_if, found_step, done_step, path_next, text_next, taken}
 use Rattle.agent_proto.specs.Messages.{may_be_replaced}
-use Rattle.agent_proto.specs.Reading.{mapped, made, both, byte_in, front_in, number_in, sized_in, bit_of, bit_in, stamp_of, stamp_in, text_in, found_by, found_in, entry_by, replaced_by, entry_in, replaced_in, tracked_in, file_in, done_by, done_in}
+use Rattle.agent_proto.specs.Reading.{mapped, made, both, front_in, number_in, bit_of, bit_in, stamp_of, stamp_in, text_in, found_by, found_in, entry_by, replaced_by, done_by, done_in}
 use Rattle.agent_proto.proofs.Comparisons.{le_suc, le_none, le_zero, suc_zero}
-use Rattle.agent_proto.proofs.PathRoom.{Room, room_of, has_room_of, CanEnd, within, step_len, no_due, step_due, whole_is}
+use Rattle.agent_proto.proofs.PathRoom.{room_of, has_room_of, CanEnd, within, step_len, no_due, step_due, whole_is}
 
 -- ---- what a reader leaves
 

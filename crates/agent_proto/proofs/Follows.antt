@@ -1,12 +1,11 @@
 -- A place says which bytes go on behind those that led to it, to the end of a message.
-use Rattle.std.proofs.Common.{◌≡◌, ℕ, zero, suc, ◌+◌, ◌-◌, ◌*◌, ◌<◌, ◌≤◌, ◌^◌, Bool, true, false, cond, ◌&&◌, ◌||◌, List, [], ◌∷◌, ◌++◌, length, take, drop, refl, sym, ◌∙◌, ap, subst, arith, ◌⊎◌, inl, inr, Some, None, length-append, length-drop, append_assoc}
-use Rattle.std.specs.Prelude.{Option, nat_le, nat_lt, ◌==◌}
-use Rattle.std.specs.Option.{option_and_then}
+use Rattle.std.proofs.Common.{◌≡◌, ℕ, zero, suc, ◌+◌, ◌-◌, ◌*◌, ◌<◌, ◌≤◌, ◌^◌, Bool, true, false, cond, List, [], ◌∷◌, ◌++◌, length, take, drop, refl, sym, ◌∙◌, ap, subst, arith, inl, inr, Some, None, length-append, append_assoc}
+use Rattle.std.specs.Prelude.{nat_le}
 use Rattle.std.proofs.lemmas.Bool.{and_parts, leb-true, le-leb}
 use Rattle.std.proofs.lemmas.Bool.Decides.{nat_tests, leb_tells}
-use Rattle.std.proofs.lemmas.List.{append-nil, take-append-drop, length-take-le, take_at, drop_at}
+use Rattle.std.proofs.lemmas.List.{take-append-drop, length-take-le, take_at, drop_at}
 use Rattle.mux_frames.specs.Numbers.{value, value_from, AreBytes}
-use Rattle.mux_frames.specs.Prefix.{Continues, IsFault}
+use Rattle.mux_frames.specs.Prefix.{Continues}
 use Rattle.mux_frames.proofs.Digits.{AreBytes-append, AreBytes-back, value_from-least, bytes_between}
 use Rattle.agent_proto.specs.declared.behind.Behind.{Behind}
 use Rattle.agent_proto.specs.declared.field_place.FieldPlace.{FieldPlace}
@@ -14,13 +13,12 @@ use Rattle.agent_proto.specs.declared.limits.TheConstants.{MAX_MESSAGE}
 use Rattle.agent_proto.specs.declared.message.Message.{Message}
 use Rattle.agent_proto.specs.declared.place.Place.{Place}
 use Rattle.agent_proto.specs.declared.place.Place.TheVariants.{Head, Kind, Count, Field}
-use Rattle.agent_proto.specs.declared.place.Step.{Step}
 use Rattle.agent_proto.specs.declared.place.Step.TheVariants.{Bad, Whole, On}
 use Rattle.agent_proto.specs.Fields.{number_field}
-use Rattle.agent_proto.specs.Messages.{body, spelling, IsMessage}
+use Rattle.agent_proto.specs.Messages.{body, spelling}
 use Rattle.agent_proto.specs.FieldPlaces.{worth}
 use Rattle.agent_proto.specs.Behinds.{rows_taken}
-use Rattle.agent_proto.specs.Places.{count_taken, can_count, is_length, in_head, in_count, IsRest, IsReached, step}
+use Rattle.agent_proto.specs.Places.{count_taken, is_length, in_head, in_count, IsRest, IsReached, step}
 use Rattle.agent_proto.specs.Reading.{message_in, whole}
 use Rattle.agent_proto.specs.Streams.{IsSent, IsSpelling}
 use Rattle.agent_proto.specs.Follows.{Follows}
@@ -32,7 +30,7 @@ use Rattle.agent_proto.proofs.Comparisons.{le_suc, suc_zero}
 use Rattle.agent_proto.proofs.MeasuredWalks.{bytes_front, bytes_drop}
 use Rattle.agent_proto.proofs.PlaceLaws.{Means, means_along, GoesOn, field_goes_on}
 use Rattle.agent_proto.proofs.StepLaws.{field_means, count_means, count_goes_on}
-use Rattle.agent_proto.proofs.KindLaws.{MessageRest, kind_means, Bodies, body_of_length, length_of_body}
+use Rattle.agent_proto.proofs.KindLaws.{MessageRest, kind_means, body_of_length, length_of_body}
 
 -- ---- a byte at each place
 

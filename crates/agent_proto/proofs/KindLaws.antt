@@ -1,11 +1,11 @@
 -- A message's kind and length: what goes on behind them.
-use Rattle.std.proofs.Common.{◌≡◌, ℕ, zero, suc, ◌+◌, ◌-◌, ◌*◌, ◌<◌, ◌≤◌, ◌^◌, Bool, true, false, cond, ◌&&◌, ◌||◌, List, [], ◌∷◌, ◌++◌, length, take, drop, refl, sym, ◌∙◌, ap, subst, arith, ◌⊎◌, inl, inr, Some, None, length-append, length-drop}
-use Rattle.std.specs.Prelude.{Option, nat_le, nat_lt, ◌==◌, ⊤}
-use Rattle.std.specs.Option.{option_map, option_and_then}
+use Rattle.std.proofs.Common.{◌≡◌, ℕ, zero, suc, ◌-◌, ◌<◌, ◌≤◌, Bool, true, false, cond, ◌||◌, List, [], ◌∷◌, ◌++◌, length, refl, sym, ◌∙◌, ap, subst, arith, inl, inr, Some, None, length-append}
+use Rattle.std.specs.Prelude.{Option, nat_le, ◌==◌}
+use Rattle.std.specs.Option.{option_and_then}
 use Rattle.std.proofs.lemmas.Bool.{and_parts, eqb-true, leb-true, le-leb}
-use Rattle.std.proofs.lemmas.Bool.Decides.{nat_tests, leb_tells, eqb_tells}
+use Rattle.std.proofs.lemmas.Bool.Decides.{nat_tests, leb_tells}
 use Rattle.std.proofs.lemmas.List.{nil_from_length}
-use Rattle.mux_frames.specs.Numbers.{value_from, AreBytes}
+use Rattle.mux_frames.specs.Numbers.{AreBytes}
 use Rattle.agent_proto.specs.declared.behind.Behind.TheVariants as behind
 use Rattle.agent_proto.specs.declared.kind.Request.{Request}
 use Rattle.agent_proto.specs.declared.kind.Request.TheVariants as requests
@@ -13,22 +13,18 @@ use Rattle.agent_proto.specs.declared.kind.Reply.{Reply}
 use Rattle.agent_proto.specs.declared.kind.Reply.TheVariants as replies
 use Rattle.agent_proto.specs.declared.field_place.Wanted.TheVariants as wanted
 use Rattle.agent_proto.specs.declared.field_place.Measured.TheVariants as measured
-use Rattle.agent_proto.specs.declared.field_place.FieldPlace.{FieldPlace}
 use Rattle.agent_proto.specs.declared.field_place.FieldPlace.TheVariants.{Any, Found, Done, Size}
 use Rattle.agent_proto.specs.declared.limits.TheConstants.{MAX_MESSAGE}
 use Rattle.agent_proto.specs.declared.message.Message.{Message}
-use Rattle.agent_proto.specs.declared.place.Place.TheVariants.{Head, Kind, Count, Field}
-use Rattle.agent_proto.specs.declared.place.Step.{Step}
-use Rattle.agent_proto.specs.declared.place.Step.TheVariants.{Bad, Whole, On}
+use Rattle.agent_proto.specs.declared.place.Step.TheVariants.{Bad}
 use Rattle.agent_proto.specs.declared.field_place.Next.TheVariants.{On as on_field}
 use Rattle.agent_proto.specs.declared.wire.TheConstants.{KIND_HELD, KIND_STAGE_APPEND, KIND_CLEARED}
-use Rattle.agent_proto.specs.FieldPlaces.{IsPlace}
 use Rattle.agent_proto.specs.Sizes.{Has, field_sizes}
 use Rattle.mux_frames.proofs.Digits.{AreBytes-append}
 use Rattle.agent_proto.specs.Kinds.{request_of, reply_of}
-use Rattle.agent_proto.specs.Behinds.{then_taken, behind_taken, AreFew}
-use Rattle.agent_proto.specs.Places.{count_taken, reply_taken, asked_taken, start, whole_if_none, reply_start, other_start, kind_start, is_length, IsRest, step}
-use Rattle.agent_proto.specs.Reading.{message_in, fields_in, other_in, answer_in, ask_in, whole}
+use Rattle.agent_proto.specs.Behinds.{behind_taken}
+use Rattle.agent_proto.specs.Places.{reply_taken, asked_taken, reply_start, other_start, kind_start, is_length}
+use Rattle.agent_proto.specs.Reading.{message_in, fields_in, other_in, whole}
 use Rattle.agent_proto.proofs.Found.{some_is}
 use Rattle.agent_proto.proofs.FieldWalks.{left_of}
 use Rattle.agent_proto.proofs.KindWalks.{ask_left, answer_left}

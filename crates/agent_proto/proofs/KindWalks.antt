@@ -1,9 +1,8 @@
 -- What the walk over a message's fields leaves behind it is what the reader of the message leaves.
-use Rattle.std.proofs.Common.{◌≡◌, ℕ, zero, suc, ◌+◌, ◌-◌, ◌<◌, ◌≤◌, Bool, true, false, cond, List, [], ◌∷◌, ◌++◌, length, take, drop, refl, sym, ◌∙◌, ap, subst, arith, Some, None}
+use Rattle.std.proofs.Common.{◌≡◌, ℕ, zero, suc, ◌+◌, Bool, true, false, cond, List, [], ◌∷◌, length, take, drop, refl, sym, ◌∙◌, ap, arith, Some, None}
 use Rattle.std.specs.Prelude.{Option, nat_le}
 use Rattle.std.specs.Option.{option_map, option_and_then}
-use Rattle.mux_frames.specs.Numbers.{value, value_from, AreBytes}
-use Rattle.entry_tree.specs.declared.entry.Entry.{Entry}
+use Rattle.mux_frames.specs.Numbers.{value, AreBytes}
 use Rattle.roots_api.specs.declared.answer.Answer.TheVariants as answers
 use Rattle.roots_api.specs.declared.op.Op.TheVariants as ops
 use Rattle.roots_api.specs.declared.who.Who.TheVariants.{Session}
@@ -12,7 +11,6 @@ use Rattle.agent_proto.specs.declared.kind.Request.{Request}
 use Rattle.agent_proto.specs.declared.kind.Request.TheVariants as requests
 use Rattle.agent_proto.specs.declared.kind.Reply.{Reply}
 use Rattle.agent_proto.specs.declared.kind.Reply.TheVariants as replies
-use Rattle.agent_proto.specs.declared.message.Message.{Message}
 use Rattle.agent_proto.specs.declared.message.Message.TheVariants as messages
 use Rattle.agent_proto.specs.declared.field_place.Wanted.TheVariants as wanted
 use Rattle.agent_proto.specs.declared.field_place.Measured.TheVariants as measured
@@ -22,8 +20,8 @@ use Rattle.agent_proto.specs.declared.field_place.Next.TheVariants.{On}
 use Rattle.agent_proto.specs.FieldPlaces.{taken}
 use Rattle.agent_proto.specs.Behinds.{then_taken, rows_taken, replaced_taken, bit_taken_then, behind_taken}
 use Rattle.agent_proto.specs.Places.{count_taken, reply_taken, asked_taken}
-use Rattle.agent_proto.specs.Reading.{mapped, both, front_in, number_in, sized_in, bit_in, stamp_of, stamp_in, path_in, name_in, text_in, found_in, entry_in, replaced_in, tracked_in, file_in, done_in, rows_by, rows_in, piece_in, who_in, op_in, answer_in, ask_in}
-use Rattle.agent_proto.proofs.FieldWalks.{left_of, left_mapped, left_both, left_front, front_left, front_none, front_some, front_all, any_taken, then_bit_taken, left_if, passes, any_left, there_left, replaced_left, tracked_left, file_left, found_taken, done_taken}
+use Rattle.agent_proto.specs.Reading.{both, front_in, number_in, sized_in, bit_in, stamp_of, stamp_in, path_in, name_in, text_in, found_in, entry_in, replaced_in, tracked_in, file_in, done_in, rows_by, rows_in, piece_in, who_in, op_in, answer_in, ask_in}
+use Rattle.agent_proto.proofs.FieldWalks.{left_of, left_mapped, left_both, left_front, front_left, front_none, front_some, front_all, any_taken, then_bit_taken, any_left, there_left, replaced_left, tracked_left, file_left, found_taken, done_taken}
 use Rattle.agent_proto.proofs.MeasuredWalks.{path_field_taken, name_field_taken, text_field_taken, piece_field_taken, bytes_field_taken, bytes_drop}
 
 -- ---- one field, and others behind it

@@ -1,15 +1,15 @@
 -- What the walk over a length and what is as long leaves behind it is what the reader of the field leaves.
-use Rattle.std.proofs.Common.{◌≡◌, ℕ, zero, suc, ◌+◌, ◌-◌, ◌*◌, ◌<◌, ◌≤◌, ◌^◌, Bool, true, false, cond, not, ◌&&◌, ◌||◌, List, [], ◌∷◌, ◌++◌, length, take, drop, refl, sym, ◌∙◌, ap, subst, arith, ◌⊎◌, inl, inr, Some, None, leb, eqb}
-use Rattle.std.specs.Prelude.{Option, nat_lt, nat_le, ◌==◌}
+use Rattle.std.proofs.Common.{◌≡◌, ℕ, zero, suc, ◌+◌, ◌*◌, ◌<◌, ◌≤◌, ◌^◌, Bool, true, false, cond, not, ◌&&◌, List, [], ◌∷◌, length, take, drop, refl, sym, ◌∙◌, ap, subst, arith, ◌⊎◌, inl, inr, Some, None, leb, eqb}
+use Rattle.std.specs.Prelude.{Option, nat_le}
 use Rattle.std.specs.Option.{option_map, option_and_then}
 use Rattle.std.specs.List.{list_all, slice_split, All}
 use Rattle.std.specs.Str.{is_utf8}
-use Rattle.std.proofs.lemmas.Bool.{and_parts, leb-true, le-leb, not-true}
-use Rattle.std.proofs.lemmas.Bool.Decides.{nat_tests, leb_tells, eqb_tells}
+use Rattle.std.proofs.lemmas.Bool.{and_parts, leb-true, not-true}
+use Rattle.std.proofs.lemmas.Bool.Decides.{nat_tests, leb_tells}
 use Rattle.std.proofs.lemmas.List.{length-take-le}
 use Rattle.std.proofs.lemmas.List.Elements.{All-nil, All-cons}
 use Rattle.std.proofs.lemmas.List.Splits.{slice_split_none}
-use Rattle.mux_frames.specs.Numbers.{value, value_from, AreBytes}
+use Rattle.mux_frames.specs.Numbers.{value, AreBytes}
 use Rattle.mux_frames.proofs.Digits.{value_from-most}
 use Rattle.sync_path.specs.Name.{is_name, has_name_form, has_name_len, is_dots, is_name_byte}
 use Rattle.sync_path.specs.Path.{path_text}
@@ -18,14 +18,13 @@ use Rattle.sync_path.proofs.Texts.{path_text-parts_of}
 use Rattle.entry_tree.specs.Text.{is_text, has_text_len}
 use Rattle.roots_api.specs.declared.limits.TheConstants.{MAX_PIECE}
 use Rattle.agent_proto.specs.declared.character.Begun.TheVariants.{Whole as whole_char}
-use Rattle.agent_proto.specs.declared.field_place.Measured.{Measured}
 use Rattle.agent_proto.specs.declared.field_place.Measured.TheVariants as measured
-use Rattle.agent_proto.specs.declared.field_place.FieldPlace.TheVariants.{Any, Size, Path, Text}
-use Rattle.agent_proto.specs.declared.field_place.Next.TheVariants.{Refused, Whole, On}
+use Rattle.agent_proto.specs.declared.field_place.FieldPlace.TheVariants.{Any, Size, Path}
+use Rattle.agent_proto.specs.declared.field_place.Next.TheVariants.{Whole, On}
 use Rattle.agent_proto.specs.Characters.{ends_whole}
 use Rattle.agent_proto.specs.PathPlaces.{name_start, ends_path}
-use Rattle.agent_proto.specs.FieldPlaces.{width, least_size, most_size, some_bytes, behind_size, taken}
-use Rattle.agent_proto.specs.Reading.{made, front_in, number_in, sized_in, is_path, path_by, name_by, text_by, path_in, name_in, text_in, piece_by, piece_in}
+use Rattle.agent_proto.specs.FieldPlaces.{some_bytes, taken}
+use Rattle.agent_proto.specs.Reading.{made, front_in, sized_in, is_path, path_by, name_by, text_by, path_in, name_in, text_in, piece_by, piece_in}
 use Rattle.agent_proto.proofs.Characters.{utf8_is}
 use Rattle.agent_proto.proofs.PathWalk.{is_slash, follows, path_is, and_false}
 use Rattle.agent_proto.proofs.FieldWalks.{left_of, front_left, left_front, front_all, any_taken, front_if, path_taken, text_taken, behind, behind_digits, size_taken, same_bool}

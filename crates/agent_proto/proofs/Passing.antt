@@ -1,6 +1,6 @@
 -- Bytes that may be any, passed over at once.
-use Rattle.std.proofs.Common.{◌≡◌, ℕ, zero, suc, ◌+◌, ◌-◌, ◌<◌, ◌≤◌, Bool, true, false, cond, List, [], ◌∷◌, ◌++◌, length, take, drop, refl, sym, ap, subst, ◌∙◌, arith, append_assoc, length-drop, inl, inr}
-use Rattle.std.specs.Prelude.{nat_le, ◌==◌}
+use Rattle.std.proofs.Common.{◌≡◌, ℕ, suc, ◌+◌, ◌-◌, ◌<◌, ◌≤◌, true, false, cond, List, [], ◌∷◌, ◌++◌, length, take, drop, refl, sym, ap, subst, ◌∙◌, arith, append_assoc, length-drop, inl, inr}
+use Rattle.std.specs.Prelude.{nat_le}
 use Rattle.std.proofs.lemmas.Bool.Decides.{nat_tests}
 use Rattle.std.proofs.Math.Seq.{take-add}
 use Rattle.std.proofs.lemmas.List.{append-nil, length-take-le}
@@ -12,8 +12,8 @@ use Rattle.agent_proto.specs.declared.place.Place.{Place}
 use Rattle.agent_proto.specs.declared.place.Place.TheVariants.{Field}
 use Rattle.agent_proto.specs.declared.place.Step.TheVariants.{Bad, On}
 use Rattle.agent_proto.specs.Behinds.{behind_sizes}
-use Rattle.agent_proto.specs.Sizes.{Has, of_size, field_sizes, meets}
-use Rattle.agent_proto.specs.Places.{IsReached, start, in_field, step}
+use Rattle.agent_proto.specs.Sizes.{Has, of_size, meets}
+use Rattle.agent_proto.specs.Places.{IsReached, in_field, step}
 use Rattle.agent_proto.specs.Follows.{Follows, Passes}
 use Rattle.agent_proto.proofs.Sums.{Meet, meet_of, of_meet}
 use Rattle.agent_proto.proofs.PlaceLaws.{range_field, range_behind}
@@ -74,8 +74,12 @@ passes_none place most ok = (omega arith, ok, λ seen more each none f. subst (�
     empty (x ∷ xs) e = absurd (omega (arith, e))
 
 pub passes_some : (count : ℕ) (b : Behind) (left most n : ℕ) → n < count → n ≤ most → IsReached (Field (Any count) b left) → Passes (Field (Any count) b left) most (Field (Any (count - n)) b (left - n), n)
-passes_some count b left most n few within ok = (within, fewer_reached count n b left few ok, λ seen more each size f.
-    subst (λ (k : ℕ). Follows (seen ++ more) (Field (Any (count - k)) b (left - k))) size (follows_past more count b left seen (omega (arith, few, size)) each f))
+passes_some count b left most n few within ok = (
+  within,
+  fewer_reached count n b left few ok,
+  λ seen more each size f.
+      subst (λ (k : ℕ). Follows (seen ++ more) (Field (Any (count - k)) b (left - k))) size (follows_past more count b left seen (omega (arith, few, size)) each f),
+)
 
 -- the walk goes on behind them
 pub walks_past : (from at then : Place) (bytes : List ℕ) (index most many : ℕ) → Walked from bytes index at → AreBytes bytes → most ≡ length bytes - index → Passes at most (then, many) → Walked from bytes (index + many) then

@@ -1,5 +1,5 @@
 -- How many bytes can go on from a place in the text of a path to its end.
-use Rattle.std.proofs.Common.{◌≡◌, ℕ, zero, suc, ◌+◌, ◌-◌, ◌*◌, ◌<◌, ◌≤◌, Bool, true, false, cond, not, ◌&&◌, ◌||◌, List, [], ◌∷◌, length, refl, sym, ◌∙◌, ap, subst, arith, ◌⊎◌, inl, inr, Some, None, add-one}
+use Rattle.std.proofs.Common.{◌≡◌, ℕ, zero, suc, ◌+◌, ◌-◌, ◌*◌, ◌<◌, ◌≤◌, Bool, true, false, cond, not, ◌&&◌, ◌||◌, List, [], ◌∷◌, length, refl, sym, ◌∙◌, ap, subst, arith, ◌⊎◌, inl, inr, Some, None}
 use Rattle.std.specs.Prelude.{Option, nat_lt, nat_le, ◌==◌}
 use Rattle.std.specs.Option.{option_map}
 use Rattle.std.proofs.lemmas.Bool.{and_parts}
@@ -8,8 +8,8 @@ use Rattle.mux_frames.specs.Numbers.{AreBytes}
 use Rattle.agent_proto.specs.declared.character.Begun.{Begun}
 use Rattle.agent_proto.specs.declared.character.Begun.TheVariants.{Whole, One, Two, Three, AfterE0, AfterEd, AfterF0, AfterF4}
 use Rattle.agent_proto.specs.declared.path_place.PathPlace.{PathPlace}
-use Rattle.agent_proto.specs.Characters.{next_in, char_step, is_whole, bytes_due}
-use Rattle.agent_proto.specs.PathPlaces.{name_start, is_good_name, is_name_end, behind_slash, behind_byte, behind_letter, path_step, ends_path, has_room, can_end}
+use Rattle.agent_proto.specs.Characters.{char_step, is_whole, bytes_due}
+use Rattle.agent_proto.specs.PathPlaces.{name_start, is_good_name, is_name_end, behind_byte, path_step, ends_path, has_room}
 use Rattle.agent_proto.proofs.Found.{cond_found, cond_either, map_found, and_then_found}
 
 -- ---- characters
@@ -169,14 +169,16 @@ slash_on len left names good long one r =
     let most : len ≤ 255 = omega (arith, r.len_in) in
     let used : 0 < left = elim (eqb_tells len 254) [ inl p ↦ let h = one p.1 in omega (arith, h) | inr p ↦ let h = r.next (omega arith) (omega (arith, p.1, long, most)) in omega (arith, h) ] in
     let some : 0 < names = omega (arith, r.total, used, long) in
-    let fits : left ≤ 255 + 256 * (names - 1) = elim (eqb_tells len 254) [ inl p ↦ let h = one p.1 in omega (arith, h) | inr p ↦ omega (arith, r.total, some, p.1, long, most) ] in
-    (some, record {
-      due_in = omega arith;
-      len_in = omega arith;
-      total = omega (arith, fits);
-      last = λ e z. absurd (omega (arith, e, used));
-      next = λ l e. absurd (omega (arith, e));
-    })
+    let fits : left ≤ 255 + 256 * (names - 1) = elim (eqb_tells len 254) [ inl p ↦ let h = one p.1 in omega (arith, h) | inr p ↦ omega (arith, r.total, some, p.1, long, most) ] in (
+      some,
+      record {
+        due_in = omega arith;
+        len_in = omega arith;
+        total = omega (arith, fits);
+        last = λ e z. absurd (omega (arith, e, used));
+        next = λ l e. absurd (omega (arith, e));
+      },
+    )
 
 -- ---- places
 

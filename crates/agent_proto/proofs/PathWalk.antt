@@ -1,19 +1,17 @@
 -- Bytes that go on to the end of a path are the text of one, and no others are.
-use Rattle.std.proofs.Common.{◌≡◌, ℕ, zero, suc, ◌+◌, ◌-◌, ◌<◌, ◌≤◌, Bool, true, false, cond, not, ◌&&◌, ◌||◌, List, [], ◌∷◌, ◌++◌, length, refl, sym, ◌∙◌, ap, subst, arith, ◌⊎◌, inl, inr, Some, None, add-one, append_assoc, length-append}
-use Rattle.std.specs.Prelude.{Option, nat_lt, nat_le, ◌==◌, bytes_eq, codes}
+use Rattle.std.proofs.Common.{◌≡◌, ℕ, zero, suc, ◌+◌, ◌-◌, ◌<◌, ◌≤◌, Bool, true, false, cond, not, ◌&&◌, ◌||◌, List, [], ◌∷◌, ◌++◌, length, refl, sym, ◌∙◌, ap, arith, inl, inr, Some, None, append_assoc, length-append}
+use Rattle.std.specs.Prelude.{Option, nat_lt, nat_le, ◌==◌}
 use Rattle.std.specs.Option.{option_map}
 use Rattle.std.specs.List.{list_all, slice_split, onto_first}
 use Rattle.std.specs.Str.{is_utf8}
-use Rattle.std.proofs.lemmas.Bool.{and_parts}
-use Rattle.std.proofs.lemmas.Bool.Decides.{nat_tests, leb_tells, eqb_tells}
+use Rattle.std.proofs.lemmas.Bool.Decides.{nat_tests, leb_tells}
 use Rattle.std.proofs.lemmas.List.{append-nil}
 use Rattle.std.proofs.lemmas.List.Folds.{list_all-append}
 use Rattle.sync_path.specs.Name.{is_name, has_name_form, has_name_len, is_dots, is_name_byte}
 use Rattle.agent_proto.specs.declared.character.Begun.{Begun}
-use Rattle.agent_proto.specs.declared.character.Begun.TheVariants.{Whole}
 use Rattle.agent_proto.specs.declared.path_place.PathPlace.{PathPlace}
 use Rattle.agent_proto.specs.Characters.{char_step, is_whole, ends_whole}
-use Rattle.agent_proto.specs.PathPlaces.{name_start, is_good_name, is_name_end, behind_slash, behind_byte, behind_letter, path_step, ends_path}
+use Rattle.agent_proto.specs.PathPlaces.{name_start, is_name_end, behind_slash, behind_byte, behind_letter, ends_path}
 use Rattle.agent_proto.proofs.Characters.{utf8_is}
 use Rattle.agent_proto.proofs.Comparisons.{le_suc, le_none, le_zero, zero_lt}
 

@@ -1,18 +1,13 @@
 -- A byte more: what goes on behind it, and that nothing does where it is bad.
-use Rattle.std.proofs.Common.{◌≡◌, ℕ, zero, suc, ◌+◌, ◌-◌, ◌*◌, ◌<◌, ◌≤◌, ◌^◌, Bool, true, false, cond, ◌&&◌, ◌||◌, List, [], ◌∷◌, ◌++◌, length, take, drop, refl, sym, ◌∙◌, ap, subst, arith, ◌⊎◌, inl, inr, Some, None, length-append, length-drop}
-use Rattle.std.specs.Prelude.{Option, nat_le, nat_lt, ◌==◌, max, min, ⊤}
-use Rattle.std.specs.Option.{option_map, option_and_then}
-use Rattle.std.proofs.lemmas.Bool.{and_parts}
-use Rattle.std.proofs.lemmas.Bool.Decides.{nat_tests, leb_tells, eqb_tells}
-use Rattle.mux_frames.specs.Numbers.{value_from, AreBytes}
+use Rattle.std.proofs.Common.{◌≡◌, ℕ, zero, suc, ◌+◌, ◌-◌, ◌*◌, ◌<◌, ◌≤◌, ◌^◌, Bool, true, false, cond, List, [], ◌++◌, length, refl, sym, ◌∙◌, ap, subst, arith, Some, None, length-append}
+use Rattle.std.specs.Prelude.{Option, ◌==◌, max, min, ⊤}
+use Rattle.std.specs.Option.{option_and_then}
+use Rattle.std.proofs.lemmas.Bool.Decides.{nat_tests}
+use Rattle.mux_frames.specs.Numbers.{AreBytes}
 use Rattle.mux_frames.proofs.Digits.{AreBytes-append}
-use Rattle.agent_proto.specs.declared.character.Begun.{Begun}
-use Rattle.agent_proto.specs.declared.path_place.PathPlace.{PathPlace}
 use Rattle.agent_proto.specs.declared.behind.Behind.{Behind}
 use Rattle.agent_proto.specs.declared.behind.Behind.TheVariants as behind
-use Rattle.agent_proto.specs.declared.kind.Request.{Request}
 use Rattle.agent_proto.specs.declared.kind.Request.TheVariants as requests
-use Rattle.agent_proto.specs.declared.field_place.Wanted.{Wanted}
 use Rattle.agent_proto.specs.declared.field_place.Wanted.TheVariants as wanted
 use Rattle.agent_proto.specs.declared.field_place.Measured.{Measured}
 use Rattle.agent_proto.specs.declared.field_place.Measured.TheVariants as measured
@@ -22,16 +17,15 @@ use Rattle.agent_proto.specs.declared.field_place.Next.{Next}
 use Rattle.agent_proto.specs.declared.field_place.Next.TheVariants.{Refused, Whole as whole_field, On as on_field}
 use Rattle.agent_proto.specs.declared.limits.TheConstants.{MAX_MESSAGE}
 use Rattle.agent_proto.specs.declared.place.Place.{Place}
-use Rattle.agent_proto.specs.declared.place.Place.TheVariants.{Head, Kind, Count, Field}
+use Rattle.agent_proto.specs.declared.place.Place.TheVariants.{Field}
 use Rattle.agent_proto.specs.declared.place.Step.{Step}
 use Rattle.agent_proto.specs.declared.place.Step.TheVariants.{Bad, Whole, On}
-use Rattle.agent_proto.specs.declared.sizes.Sizes.{Sizes}
-use Rattle.agent_proto.specs.FieldPlaces.{least_size, most_size, worth, field_step, taken, IsPlace}
-use Rattle.agent_proto.specs.Behinds.{asked_next, next_row, next_field, then_taken, rows_taken, behind_taken, behind_sizes, AreFew}
+use Rattle.agent_proto.specs.FieldPlaces.{least_size, most_size, worth, taken, IsPlace}
+use Rattle.agent_proto.specs.Behinds.{next_field, then_taken, behind_taken, behind_sizes, AreFew}
 use Rattle.agent_proto.specs.Places.{start, whole_if_none, after, in_field, IsRest, IsReached, IsNext}
-use Rattle.agent_proto.specs.Sizes.{Has, between, field_sizes, meets}
+use Rattle.agent_proto.specs.Sizes.{field_sizes, meets}
 use Rattle.agent_proto.proofs.Found.{some_is}
-use Rattle.agent_proto.proofs.Sums.{Meet, IsRange, of_meet, meet_of}
+use Rattle.agent_proto.proofs.Sums.{IsRange, of_meet, meet_of}
 use Rattle.agent_proto.proofs.FieldSizes.{fits, fills, then_found}
 use Rattle.agent_proto.proofs.BehindSizes.{bytes_left, taken_append, behind_measures}
 

@@ -1,12 +1,12 @@
 -- Runs of a reader, over every cutting.
-use Rattle.std.proofs.Common.{◌≡◌, ℕ, ◌+◌, ◌^◌, ◌<◌, ◌≤◌, List, [], ◌∷◌, ◌++◌, length, sym, ap, subst, ◌∙◌, arith, append_assoc, length-append}
+use Rattle.std.proofs.Common.{◌≡◌, ℕ, ◌+◌, ◌^◌, ◌<◌, List, [], ◌∷◌, ◌++◌, length, sym, ap, subst, ◌∙◌, arith, append_assoc, length-append}
 use Rattle.std.proofs.lemmas.List.{append-nil}
 use Rattle.std.proofs.lemmas.List.Concat.{flat_map-append}
 use Rattle.agent_proto.specs.declared.limits.TheConstants.{MAX_MESSAGE}
 use Rattle.agent_proto.specs.declared.message.Message.{Message}
 use Rattle.agent_proto.specs.Messages.{spelling}
 use Rattle.mux_frames.specs.Prefix.{Continues, IsFault}
-use Rattle.agent_proto.specs.Streams.{IsSent, IsSpelling, stream_of, AreSent, IsStream, Splits, IsFrontOf}
+use Rattle.agent_proto.specs.Streams.{IsSpelling, stream_of, AreSent, IsStream, Splits, IsFrontOf}
 use Rattle.mux_frames.specs.Readers.{Reading, fresh, counted}
 use Rattle.agent_proto.specs.Readers.{Runs, Refuses, fed, answered, FaultsAt}
 use Rattle.agent_proto.proofs.Spellings.{size_of_message, nothing_continues}

@@ -1,12 +1,10 @@
 -- One spelling: what a message and some bytes behind it spell has no other reading.
-use Rattle.std.proofs.Common.{◌≡◌, ℕ, ◌+◌, ◌<◌, ◌≤◌, ◌^◌, List, [], ◌∷◌, ◌++◌, length, take, drop, Some, refl, sym, ap, subst, ◌∙◌, arith, append_assoc, length-append}
-use Rattle.std.specs.Prelude.{Option}
+use Rattle.std.proofs.Common.{◌≡◌, ℕ, ◌+◌, ◌<◌, ◌≤◌, List, [], ◌∷◌, ◌++◌, length, take, drop, Some, refl, sym, ap, ◌∙◌, arith, append_assoc, length-append}
 use Rattle.std.proofs.lemmas.List.{take_at, drop_at}
-use Rattle.mux_frames.specs.Numbers.{AreBytes}
 use Rattle.mux_frames.specs.Prefix.{Continues}
 use Rattle.mux_frames.proofs.Digits.{AreBytes-append}
 use Rattle.agent_proto.specs.Fields.{number_field}
-use Rattle.agent_proto.specs.Messages.{body, spelling, IsMessage}
+use Rattle.agent_proto.specs.Messages.{body, spelling}
 use Rattle.agent_proto.specs.Reading.{number_in}
 use Rattle.agent_proto.specs.Streams.{IsSent, IsSpelling}
 use Rattle.agent_proto.specs.declared.limits.TheConstants.{MAX_MESSAGE}

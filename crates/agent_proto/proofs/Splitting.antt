@@ -1,7 +1,7 @@
 -- Messages one behind the other: they have one reading, and what is wrong behind them is wrong in the stream.
-use Rattle.std.proofs.Common.{◌≡◌, ℕ, ◌+◌, ◌-◌, ◌<◌, ◌≤◌, List, [], ◌∷◌, ◌++◌, length, get_or, take, drop, refl, add-one, sym, ap, subst, ◌∙◌, arith, append_assoc, length-append, inl, inr}
+use Rattle.std.proofs.Common.{◌≡◌, ℕ, ◌+◌, ◌-◌, ◌<◌, ◌≤◌, List, [], ◌∷◌, ◌++◌, length, get_or, take, refl, add-one, sym, ap, subst, ◌∙◌, arith, append_assoc, length-append, inl, inr}
 use Rattle.std.proofs.Math.Seq.{take-append-add, take-append_seam, take-suc}
-use Rattle.std.proofs.lemmas.List.{append-nil, take-append-drop, length-take-le}
+use Rattle.std.proofs.lemmas.List.{append-nil, length-take-le}
 use Rattle.std.proofs.lemmas.List.Concat.{flat_map-append}
 use Rattle.std.proofs.lemmas.Bool.{cases_lt}
 use Rattle.agent_proto.specs.declared.message.Message.{Message}
@@ -9,7 +9,7 @@ use Rattle.agent_proto.specs.Messages.{spelling}
 use Rattle.mux_frames.specs.Prefix.{Continues, IsFault}
 use Rattle.mux_frames.proofs.Splitting.{sound_front}
 use Rattle.agent_proto.specs.Streams.{IsSent, IsSpelling, stream_of, AreSent, IsStream, Splits}
-use Rattle.agent_proto.proofs.Spellings.{spelling_some, one_spelling, nothing_continues}
+use Rattle.agent_proto.proofs.Spellings.{one_spelling, nothing_continues}
 
 -- ---- lists
 

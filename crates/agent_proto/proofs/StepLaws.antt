@@ -1,10 +1,9 @@
 -- A byte more leads from each place to one of the places, and says what goes on behind it.
-use Rattle.std.proofs.Common.{◌≡◌, ℕ, zero, suc, ◌+◌, ◌-◌, ◌*◌, ◌/◌, ◌<◌, ◌≤◌, ◌^◌, Bool, true, false, cond, ◌&&◌, ◌||◌, List, [], ◌∷◌, ◌++◌, length, take, drop, refl, sym, ◌∙◌, ap, subst, arith, ◌⊎◌, inl, inr, Some, None, length-append, length-drop}
-use Rattle.std.specs.Prelude.{Option, nat_le, nat_lt, ◌==◌, max, min, ⊤}
-use Rattle.std.specs.Option.{option_map, option_and_then}
-use Rattle.std.proofs.Math.Nat.{mul-le-mul_right}
+use Rattle.std.proofs.Common.{◌≡◌, ℕ, zero, suc, ◌+◌, ◌-◌, ◌*◌, ◌/◌, ◌<◌, ◌≤◌, ◌^◌, Bool, true, false, cond, ◌&&◌, ◌||◌, List, [], ◌++◌, length, take, drop, refl, sym, ◌∙◌, ap, subst, arith, ◌⊎◌, inl, inr, Some, None, length-append, length-drop}
+use Rattle.std.specs.Prelude.{Option, nat_le, nat_lt, ◌==◌, max}
+use Rattle.std.specs.Option.{option_and_then}
 use Rattle.std.proofs.lemmas.Bool.{and_parts, leb-true, le-leb}
-use Rattle.std.proofs.lemmas.Bool.Decides.{nat_tests, leb_tells, eqb_tells}
+use Rattle.std.proofs.lemmas.Bool.Decides.{nat_tests, eqb_tells}
 use Rattle.std.proofs.lemmas.List.{length-take-le, take_at, drop_at}
 use Rattle.mux_frames.specs.Numbers.{value_from, AreBytes}
 use Rattle.mux_frames.proofs.Digits.{AreBytes-append, value_from-least, value_from-most, bytes_between}
@@ -20,24 +19,21 @@ use Rattle.agent_proto.specs.declared.field_place.FieldPlace.TheVariants.{Any, A
 use Rattle.agent_proto.specs.declared.field_place.Next.{Next}
 use Rattle.agent_proto.specs.declared.field_place.Next.TheVariants.{Refused, Whole as whole_field, On as on_field}
 use Rattle.agent_proto.specs.declared.limits.TheConstants.{MAX_MESSAGE}
-use Rattle.agent_proto.specs.declared.place.Place.{Place}
-use Rattle.agent_proto.specs.declared.place.Place.TheVariants.{Head, Kind, Count, Field}
-use Rattle.agent_proto.specs.declared.place.Step.{Step}
-use Rattle.agent_proto.specs.declared.place.Step.TheVariants.{Bad, Whole, On}
+use Rattle.agent_proto.specs.declared.place.Place.TheVariants.{Count, Field}
+use Rattle.agent_proto.specs.declared.place.Step.TheVariants.{Bad, On}
 use Rattle.agent_proto.specs.Characters.{char_step, bytes_due}
 use Rattle.agent_proto.specs.PathPlaces.{name_start, path_step, behind_slash, behind_byte, behind_letter, can_end}
-use Rattle.agent_proto.specs.FieldPlaces.{may_be_none, may_be_dir, may_be_link, may_be_other, width, least_size, most_size, worth, some_bytes, behind_size, size_step, any_step, bit_step, whole_if, link_if, found_step, done_step, path_left, path_next, text_left, text_next, field_step, taken, IsPlace}
-use Rattle.agent_proto.specs.Behinds.{next_field, rows_taken, behind_taken, AreFew}
-use Rattle.agent_proto.specs.Places.{count_taken, after, can_count, in_count, in_field, IsRest, IsReached, IsNext, step}
-use Rattle.agent_proto.specs.Sizes.{Has, between}
+use Rattle.agent_proto.specs.FieldPlaces.{may_be_none, may_be_dir, may_be_link, may_be_other, width, least_size, most_size, worth, some_bytes, behind_size, size_step, any_step, bit_step, whole_if, link_if, found_step, done_step, path_next, text_next, field_step, taken, IsPlace}
+use Rattle.agent_proto.specs.Behinds.{next_field, rows_taken, behind_taken}
+use Rattle.agent_proto.specs.Places.{count_taken, after, can_count, in_count, IsReached, IsNext, step}
 use Rattle.agent_proto.proofs.Found.{cond_found, and_then_found, map_found}
 use Rattle.agent_proto.proofs.PathRoom.{has_room_of, step_len}
 use Rattle.agent_proto.proofs.FieldWalks.{worth_is}
 use Rattle.agent_proto.proofs.Comparisons.{le_zero, suc_zero}
 use Rattle.agent_proto.proofs.MeasuredWalks.{bytes_front, bytes_drop}
 use Rattle.agent_proto.proofs.FieldSizes.{start_room}
-use Rattle.agent_proto.proofs.BehindSizes.{rows_measures, behind_measures}
-use Rattle.agent_proto.proofs.PlaceLaws.{Means, means_along, after_means, in_field_means, GoesOn, field_goes_on}
+use Rattle.agent_proto.proofs.BehindSizes.{rows_measures}
+use Rattle.agent_proto.proofs.PlaceLaws.{Means, means_along, after_means, in_field_means, GoesOn}
 
 -- ---- a byte within a field leads to one of the places
 

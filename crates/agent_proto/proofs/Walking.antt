@@ -1,8 +1,8 @@
 -- A walk over bytes from a place, a byte at a time, and its ends.
-use Rattle.std.proofs.Common.{◌≡◌, ℕ, suc, ◌+◌, ◌<◌, ◌≤◌, List, [], ◌∷◌, ◌++◌, length, get_or, take, sym, ap, subst, ◌∙◌, arith, add-one, append_assoc, length-append}
+use Rattle.std.proofs.Common.{◌≡◌, ℕ, ◌+◌, ◌<◌, ◌≤◌, List, [], ◌∷◌, ◌++◌, length, get_or, take, sym, ap, subst, ◌∙◌, arith, add-one, append_assoc, length-append}
 use Rattle.std.proofs.Math.Seq.{take-suc, take-append-add}
 use Rattle.std.proofs.lemmas.List.{append-nil}
-use Rattle.mux_frames.specs.Prefix.{Continues, IsFault}
+use Rattle.mux_frames.specs.Prefix.{Continues}
 use Rattle.agent_proto.specs.declared.place.Place.{Place}
 use Rattle.agent_proto.specs.declared.place.Step.TheVariants.{Bad, Whole, On}
 use Rattle.agent_proto.specs.declared.walk.End.TheVariants as ends

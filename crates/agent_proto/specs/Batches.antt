@@ -1,5 +1,5 @@
 -- The messages at the front of some bytes, and what a piece makes of the bytes that are held back.
-use Rattle.std.specs.Prelude.{◌≡◌, ℕ, ◌≤◌, List, [], ◌++◌, length, take, drop, Option, Some, None}
+use Rattle.std.specs.Prelude.{◌≡◌, ℕ, ◌≤◌, List, ◌++◌, length, take, drop}
 use Rattle.mux_frames.specs.Prefix.{IsFault}
 use Rattle.agent_proto.specs.declared.batch.Batch.{Batch}
 use Rattle.agent_proto.specs.declared.batch.Batch.TheVariants as batches

@@ -1,5 +1,5 @@
 -- What is to come of a message behind the field in course.
-use Rattle.std.specs.Prelude.{ℕ, zero, suc, Bool, cond, ◌+◌, ◌-◌, ◌*◌, ◌==◌, ◌<◌, ◌^◌, ⊤, List, [], ◌∷◌, Option, Some, None}
+use Rattle.std.specs.Prelude.{ℕ, zero, suc, cond, ◌+◌, ◌-◌, ◌*◌, ◌==◌, ◌<◌, ◌^◌, ⊤, List, Option, Some, None}
 use Rattle.std.specs.Option.{option_and_then}
 use Rattle.agent_proto.specs.declared.behind.Behind.{Behind}
 use Rattle.agent_proto.specs.declared.behind.Behind.TheVariants as behind

@@ -1,5 +1,5 @@
 -- Where in a message's field its first bytes end, and what a byte more makes of it.
-use Rattle.std.specs.Prelude.{ℕ, Bool, true, false, cond, not, ◌&&◌, ◌||◌, ◌+◌, ◌-◌, ◌*◌, ◌==◌, ◌<◌, ◌≤◌, ◌^◌, ⊤, nat_lt, nat_le, List, [], ◌∷◌, Option, Some, None, IsTrue}
+use Rattle.std.specs.Prelude.{ℕ, Bool, true, false, cond, ◌+◌, ◌-◌, ◌*◌, ◌==◌, ◌<◌, ◌≤◌, ◌^◌, ⊤, nat_le, List, [], ◌∷◌, Option, Some, None, IsTrue}
 use Rattle.agent_proto.specs.declared.character.Begun.{Begun}
 use Rattle.agent_proto.specs.declared.character.Begun.TheVariants.{Whole as whole_char}
 use Rattle.agent_proto.specs.declared.path_place.PathPlace.{PathPlace}

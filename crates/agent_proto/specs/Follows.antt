@@ -21,7 +21,6 @@ Ends seen bytes (Whole used) = (0 < used) × (used ≤ length bytes) × IsSpelli
 Ends seen bytes (On place) = Follows (seen ++ bytes) place
 Ends seen bytes (Bad at) = (at < length bytes) × IsFault IsSpelling (seen ++ bytes) (length seen + at)
 
-
 -- at most so many bytes can be passed over at once, whatever they are, and lead from the one place to the other
 abbrev pub Passes : Place → ℕ → Place × ℕ → Type 0
 Passes place most passed =

@@ -1,7 +1,6 @@
 -- Where in a message its first bytes end, and what a byte more makes of it.
-use Rattle.std.specs.Prelude.{◌≡◌, ◌⊎◌, ℕ, Bool, cond, ◌&&◌, ◌||◌, ◌+◌, ◌-◌, ◌*◌, ◌^◌, ◌==◌, ◌<◌, ◌≤◌, nat_le, nat_lt, List, [], ◌∷◌, length, take, drop, Option, Some, None, IsTrue, ⊤}
-use Rattle.std.specs.Option.{option_and_then}
-use Rattle.mux_frames.specs.Numbers.{value_from, AreBytes}
+use Rattle.std.specs.Prelude.{◌≡◌, ℕ, Bool, cond, ◌&&◌, ◌||◌, ◌+◌, ◌-◌, ◌*◌, ◌^◌, ◌==◌, ◌<◌, ◌≤◌, nat_le, List, [], length, take, drop, Option, Some, None, IsTrue, ⊤}
+use Rattle.mux_frames.specs.Numbers.{value_from}
 use Rattle.agent_proto.specs.declared.behind.Behind.{Behind}
 use Rattle.agent_proto.specs.declared.behind.Behind.TheVariants as behind
 use Rattle.agent_proto.specs.declared.kind.Request.{Request}
@@ -10,7 +9,7 @@ use Rattle.agent_proto.specs.declared.kind.Reply.TheVariants as replies
 use Rattle.agent_proto.specs.declared.field_place.Wanted.TheVariants as wanted
 use Rattle.agent_proto.specs.declared.field_place.Measured.TheVariants as measured
 use Rattle.agent_proto.specs.declared.field_place.FieldPlace.{FieldPlace}
-use Rattle.agent_proto.specs.declared.field_place.FieldPlace.TheVariants.{Any, AnyThenBit, Found, Done, Size}
+use Rattle.agent_proto.specs.declared.field_place.FieldPlace.TheVariants.{Any, Found, Done, Size}
 use Rattle.agent_proto.specs.declared.field_place.Next.{Next}
 use Rattle.agent_proto.specs.declared.field_place.Next.TheVariants.{Refused, Whole as whole_field, On as on_field}
 use Rattle.agent_proto.specs.declared.limits.TheConstants.{MAX_MESSAGE}

@@ -1,5 +1,5 @@
 -- What a reader of messages knows, and what one piece of the stream makes of it.
-use Rattle.std.specs.Prelude.{◌≡◌, ℕ, ◌+◌, List, [], ◌∷◌, ◌++◌, length, Option, Some, None}
+use Rattle.std.specs.Prelude.{◌≡◌, ℕ, ◌+◌, List, [], ◌∷◌, ◌++◌, length, Some, None}
 use Rattle.std.specs.List.{flat_map}
 use Rattle.mux_frames.specs.Prefix.{IsFault}
 use Rattle.mux_frames.specs.Readers.{Reading, counted}

@@ -1,5 +1,5 @@
 -- How many bytes a part of a message can have.
-use Rattle.std.specs.Prelude.{◌≡◌, ◌⊎◌, ℕ, Bool, cond, ◌&&◌, ◌||◌, ◌+◌, ◌-◌, ◌*◌, ◌==◌, ◌<◌, ◌≤◌, ◌^◌, nat_le, max, min}
+use Rattle.std.specs.Prelude.{◌≡◌, ◌⊎◌, ℕ, Bool, ◌&&◌, ◌||◌, ◌+◌, ◌-◌, ◌*◌, ◌==◌, ◌<◌, ◌≤◌, ◌^◌, nat_le, max, min}
 use Rattle.agent_proto.specs.declared.field_place.Wanted.{Wanted}
 use Rattle.agent_proto.specs.declared.field_place.Wanted.TheVariants as wanted
 use Rattle.agent_proto.specs.declared.field_place.Measured.{Measured}

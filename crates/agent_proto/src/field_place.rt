@@ -225,11 +225,7 @@ fn bit_step(count: u32, byte: u8) -> Next
 fn whole_if(may: bool) -> Next
     ensures { result ≡ whole_if may }
 {
-    if may {
-        Next::Whole
-    } else {
-        Next::Refused
-    }
+    if may { Next::Whole } else { Next::Refused }
 }
 
 fn link_if(may: bool) -> Next

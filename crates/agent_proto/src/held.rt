@@ -199,11 +199,7 @@ pub(crate) fn count(held: &Option<Held>) -> usize
 }
 
 /// Holds these bytes too.
-pub(crate) fn append(
-    alloc: Global,
-    held: &mut Option<Held>,
-    bytes: &[u8],
-) -> Result<(), AllocError>
+pub(crate) fn append(alloc: Global, held: &mut Option<Held>, bytes: &[u8]) -> Result<(), AllocError>
     requires { AreHeld held.old }
     ensures ok { OnOk result (held_bytes held.new ≡ held_bytes held.old ++ bytes.now) }
     ensures err { OnErr result (held_bytes held.new ≡ held_bytes held.old) }

@@ -5,17 +5,18 @@
 //! of kinds and fields, and what the fields may be; `specs/Fields.antt` has the bytes of each field.
 //!
 //! [`write_ask`] and [`write_answer`] give a message's one spelling, [`write_no_memory`] and [`write_too_long`] what is told in place
-//! of an answer. [`read_body`] reads what stands behind a length, once all of it is there. A reader of a connection that comes in
-//! pieces isn't part of this crate yet.
+//! of an answer. [`read_body`] reads what stands behind a length, once all of it is there. A [`MessageReader`] takes a stream in pieces
+//! of any size, and tells the first byte with which no message goes on: it walks over each byte once, by the places of `src/place.rt`,
+//! and passes over contents at once.
 //!
 //! ```rust
 //! let who = Who::Session { id: 7, run: 1, cycle: 2 };
 //! let bytes = write_ask(alloc, &who, &Op::StageClear)?; // 33 bytes
-//! let (_, body) = bytes.as_slice().split_at_checked(4).ok_or("a length")?;
-//! let message = read_body(alloc, body)?; // Some(Message::Ask(who, Op::StageClear))
+//! let mut reader = MessageReader::new();
+//! let messages = reader.feed(alloc, bytes.as_slice())?; // one: Message::Ask(who, Op::StageClear)
 //! ```
 //!
-//! The test `a_request_is_written_and_read` makes these calls.
+//! The test `a_request_is_written_and_read` of `agent_tests` makes these calls.
 #![tactic(auto)]
 
 mod batch;

@@ -74,11 +74,7 @@ fn start(field: FieldPlace, behind: Behind, left: u64) -> Step
 fn whole_if_none(left: u64) -> Step
     ensures { result ≡ whole_if_none left }
 {
-    if left == 0 {
-        Step::Whole
-    } else {
-        Step::Bad
-    }
+    if left == 0 { Step::Whole } else { Step::Bad }
 }
 
 // A field is whole, and this is behind it.

@@ -2,7 +2,8 @@
 
 use crate::tables::{BODIES, BROKEN, KINDS, bytes_of};
 use agent_proto::{
-    Message, WriteFault, read_body, write_answer, write_ask, write_no_memory, write_too_long,
+    Message, MessageReader, WriteFault, read_body, write_answer, write_ask, write_no_memory,
+    write_too_long,
 };
 use bytes::Bytes;
 use roots_api::{Answer, Content, Op, Who};
@@ -124,9 +125,9 @@ fn a_request_is_written_and_read(rt: HostRuntime) -> Result<(), Fail> {
     };
     let bytes = write_ask(rt.alloc(), &who, &Op::StageClear)?;
     assert_eq!(rt; bytes.len(), 33);
-    let (_, body) = bytes.as_slice().split_at_checked(4).ok_or("a length")?;
-    let message = read_body(rt.alloc(), body)?;
-    assert!(rt; matches!(message, Some(Message::Ask(_, Op::StageClear))));
+    let mut reader = MessageReader::new();
+    let messages = reader.feed(rt.alloc(), bytes.as_slice())?;
+    assert!(rt; matches!(messages.as_slice(), [Message::Ask(_, Op::StageClear)]));
     Ok(())
 }
 

@@ -46,7 +46,7 @@ fn stream(alloc: Global) -> Result<Vec<u8>, Fail> {
 fn a_stream_of_all_kinds_is_read_in_pieces_of_any_size(rt: HostRuntime) -> Result<(), Fail> {
     let bytes = stream(rt.alloc())?;
     let count = BODIES.lines().count();
-    for size in 1..=bytes.len() {
+    for size in [1, 2, 3, 5, 8, 13, 36, 37, 38, 100, 4096] {
         let got = fed(rt.alloc(), bytes.as_slice(), size)?;
         assert_eq!(rt; got.len(), count, "pieces of {size}");
         let again = spelled(rt.alloc(), got.as_slice())?;

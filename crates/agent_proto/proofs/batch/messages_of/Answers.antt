@@ -1,6 +1,5 @@
-use Rattle.std.proofs.Common.{◌≡◌, ◌≤◌, ◌+◌, [], length, take, drop, sym, subst, ◌∙◌, arith, length-drop}
-use Rattle.agent_proto.specs.Follows.{Follows, Ends}
-use Rattle.agent_proto.specs.Batches.{IsSpelt}
+use Rattle.std.proofs.Common.{[], sym, subst, arith, length-drop}
+use Rattle.agent_proto.specs.Follows.{Follows}
 use Rattle.agent_proto.proofs.Follows.{follows_start}
 use Rattle.agent_proto.proofs.Batches.{start_bad, added_next, found_fault}
 use Rattle.agent_proto.proofs.batch.messages_of.Goals as goal

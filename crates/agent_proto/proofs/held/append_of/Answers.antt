@@ -1,4 +1,3 @@
-use Rattle.std.proofs.Common.{rules}
 use Rattle.agent_proto.proofs.Contents.{append_spelt}
 use Rattle.agent_proto.proofs.held.append_of.Goals as goal
 

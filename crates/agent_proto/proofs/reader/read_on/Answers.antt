@@ -1,4 +1,4 @@
-use Rattle.std.proofs.Common.{◌≡◌, ◌+◌, ◌++◌, length, refl, sym, ap, ◌∙◌, arith, length-append}
+use Rattle.std.proofs.Common.{refl, ◌∙◌, arith, length-append}
 use Rattle.agent_proto.specs.Held.{held_bytes}
 use Rattle.agent_proto.proofs.Batches.{spelled_short, first_fault, reads_on}
 use Rattle.agent_proto.proofs.reader.read_on.Goals as goal
@@ -30,7 +30,7 @@ returns-in_ok-first-in-Whole-clause-ok c =
     let found = rw c.in-Whole.is at c.in_ok-at.ensures in
     rw c.count.ensures
     (reads_on (held_bytes c.args.held.now) c.args.last.now c.args.behind.now (held_bytes c.in_ok-rest-in-Whole.rest) c.in_ok-first-in-Whole.first _ c.in-Whole.messages.items c.put_first.new.messages.items c.in-Whole.used c.in-Whole.place
-        c.in_ok-one.ensures found.0 found.1 c.in_ok-first-in-Whole.ensures.ok c.put_first.ensures (c.in_ok-rest-in-Whole.ensures.1 ∙ c.split_at.ensures.back))
+    c.in_ok-one.ensures found.0 found.1 c.in_ok-first-in-Whole.ensures.ok c.put_first.ensures (c.in_ok-rest-in-Whole.ensures.1 ∙ c.split_at.ensures.back))
 
 pub count-requires : goal.count-requires
 count-requires c =

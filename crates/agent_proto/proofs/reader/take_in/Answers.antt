@@ -1,4 +1,4 @@
-use Rattle.std.proofs.Common.{◌≡◌, ◌+◌, ◌++◌, length, refl, sym, ap, ◌∙◌, arith}
+use Rattle.std.proofs.Common.{◌+◌, ◌++◌, length, refl, arith}
 use Rattle.agent_proto.specs.Held.{held_bytes}
 use Rattle.agent_proto.proofs.Splitting.{stream_fault_of}
 use Rattle.agent_proto.proofs.Batches.{follows_short, none_splits}

@@ -1,4 +1,4 @@
-use Rattle.std.proofs.Common.{◌≡◌, ◌<◌, ◌≤◌, subst, sym, ◌∙◌, ap, arith}
+use Rattle.std.proofs.Common.{◌≡◌, ◌<◌, subst, ◌∙◌, ap, arith}
 use Rattle.agent_proto.specs.declared.place.Place.TheVariants.{Field}
 use Rattle.agent_proto.specs.Places.{IsReached}
 use Rattle.agent_proto.specs.declared.field_place.FieldPlace.TheVariants.{Any}
