@@ -36,7 +36,8 @@ fn stream(alloc: Global) -> Result<Vec<u8>, Fail> {
     let mut bytes = Vec::new(alloc);
     for digits in BODIES.lines() {
         let body = bytes_of(alloc, digits)?;
-        bytes.extend_from_slice((body.len() as u32).to_be_bytes().as_slice())?;
+        let size = u32::try_from(body.len()).ok().ok_or("a short body")?;
+        bytes.extend_from_slice(size.to_be_bytes().as_slice())?;
         bytes.extend_from_slice(body.as_slice())?;
     }
     Ok(bytes)
@@ -55,21 +56,27 @@ fn a_stream_of_all_kinds_is_read_in_pieces_of_any_size(rt: HostRuntime) -> Resul
     Ok(())
 }
 
-/// What a reader answers to the bytes, one at a time, and then to a message more.
-fn one_at_a_time(alloc: Global, bytes: &[u8]) -> Result<Option<(u64, usize)>, FeedError> {
+/// The place of the bad byte, where that is the answer.
+fn place_of(answer: Result<Vec<Message>, FeedError>) -> Option<u64> {
+    match answer {
+        Err(FeedError::BadMessage { place }) => Some(place),
+        _ => None,
+    }
+}
+
+/// The place that a reader answers at the last byte, fed behind the others one by one, and again at a message behind it.
+fn bad_at_last(alloc: Global, front: &[u8], last: u8) -> Option<u64> {
     let mut reader = MessageReader::new();
-    let mut sound = 0;
-    for byte in bytes {
-        match reader.feed(alloc, &[*byte]) {
-            Ok(_) => sound += 1,
-            Err(FeedError::BadMessage { .. }) => break,
-            Err(FeedError::Memory) => return Err(FeedError::Memory),
+    for byte in front {
+        if place_of(reader.feed(alloc, &[*byte])).is_some() {
+            return None;
         }
     }
-    match reader.feed(alloc, &[0, 0, 0, 1, 0x86]) {
-        Err(FeedError::BadMessage { place }) => Ok(Some((place, sound))),
-        Err(FeedError::Memory) => Err(FeedError::Memory),
-        Ok(_) => Ok(None),
+    let place = place_of(reader.feed(alloc, &[last]));
+    if place_of(reader.feed(alloc, &[0, 0, 0, 1, 0x86])) == place {
+        place
+    } else {
+        None
     }
 }
 
@@ -77,15 +84,11 @@ fn one_at_a_time(alloc: Global, bytes: &[u8]) -> Result<Option<(u64, usize)>, Fe
 fn a_bad_byte_is_found_at_its_place_and_the_answer_stays(rt: HostRuntime) -> Result<(), Fail> {
     for digits in BAD.lines() {
         let bytes = bytes_of(rt.alloc(), digits)?;
-        let (_, front) = bytes.as_slice().split_last().ok_or("a byte")?;
-        let place = front.len();
-        let want = Some(FeedError::BadMessage {
-            place: place as u64,
-        });
-        let whole = fed(rt.alloc(), bytes.as_slice(), 4096).err();
-        assert!(rt; whole == want, "{digits}");
-        let single = one_at_a_time(rt.alloc(), bytes.as_slice())?;
-        assert!(rt; single == Some((place as u64, place)), "{digits}");
+        let (last, front) = bytes.as_slice().split_last().ok_or("a byte")?;
+        let place = Some(front.len() as u64);
+        let whole = place_of(fed(rt.alloc(), bytes.as_slice(), 4096));
+        assert!(rt; whole == place, "{digits}");
+        assert!(rt; bad_at_last(rt.alloc(), front, *last) == place, "{digits}");
     }
     Ok(())
 }
