@@ -34,6 +34,7 @@ pub trait Disk {
         ensures same { history self.new ≡ history self.old }
         ensures called { calls self.new ≡ calls_after (calls self.old) 1 }
         ensures counts { faults self.old ≤ faults self.new }
+        ensures quiet { OnOk result (faults self.new ≡ faults self.old) }
         ensures failed { OnErr result (Rose (faults self.old) (faults self.new)) };
 
     /// Fills `into` from the place on as far as the bytes reach, and answers how many these are.
@@ -43,6 +44,7 @@ pub trait Disk {
         ensures same { history self.new ≡ history self.old }
         ensures called { calls self.new ≡ calls_after (calls self.old) 1 }
         ensures counts { faults self.old ≤ faults self.new }
+        ensures quiet { OnOk result (faults self.new ≡ faults self.old) }
         ensures failed { OnErr result (Rose (faults self.old) (faults self.new)) };
 
     /// Writes over what is there from the place on, and past the end. A write that would reach past
@@ -53,6 +55,7 @@ pub trait Disk {
         ensures torn { OnErr result (FailsInPart (write_change place (length bytes.now)) (history self.old) (history self.new)) }
         ensures called { calls self.new ≡ calls_after (calls self.old) 1 }
         ensures counts { faults self.old ≤ faults self.new }
+        ensures quiet { OnOk result (faults self.new ≡ faults self.old) }
         ensures failed { OnErr result (Rose (faults self.old) (faults self.new)) };
 
     /// Takes away all behind the first `length` bytes. A cut that failed may have been made in any
@@ -62,6 +65,7 @@ pub trait Disk {
         ensures torn { OnErr result (FailsInPart (cut_change length) (history self.old) (history self.new)) }
         ensures called { calls self.new ≡ calls_after (calls self.old) 1 }
         ensures counts { faults self.old ≤ faults self.new }
+        ensures quiet { OnOk result (faults self.new ≡ faults self.old) }
         ensures failed { OnErr result (Rose (faults self.old) (faults self.new)) };
 
     /// Makes sure of all that was written and cut: a crash leaves what reads give. One that failed
@@ -71,5 +75,6 @@ pub trait Disk {
         ensures same { OnErr result (history self.new ≡ history self.old) }
         ensures called { calls self.new ≡ calls_after (calls self.old) 1 }
         ensures counts { faults self.old ≤ faults self.new }
+        ensures quiet { OnOk result (faults self.new ≡ faults self.old) }
         ensures failed { OnErr result (Rose (faults self.old) (faults self.new)) };
 }

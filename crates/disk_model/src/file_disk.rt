@@ -59,6 +59,7 @@ impl FileDisk {
         ensures err { OnErr result (IsErr answer) }
         ensures called { self.new.calls ≡ calls_after self.old.calls 1 }
         ensures counts { self.old.faults ≤ self.new.faults }
+        ensures quiet { OnOk result (self.new.faults ≡ self.old.faults) }
         ensures failed { OnErr result (Rose self.old.faults self.new.faults) }
     {
         self.calls = self.calls.saturating_add(1);

@@ -140,6 +140,7 @@ impl Disk for MemDisk {
         ensures same { contents self.new ≡ contents self.old }
         ensures called { calls_of self.new ≡ calls_after (calls_of self.old) 1 }
         ensures counts { faults_of self.old ≤ faults_of self.new }
+        ensures quiet { OnOk result (faults_of self.new ≡ faults_of self.old) }
         ensures failed { OnErr result (Rose (faults_of self.old) (faults_of self.new)) }
 
         // By the call's number: it succeeds exactly where it is to, and the bytes are within the limit.
@@ -161,6 +162,7 @@ impl Disk for MemDisk {
         ensures same { contents self.new ≡ contents self.old }
         ensures called { calls_of self.new ≡ calls_after (calls_of self.old) 1 }
         ensures counts { faults_of self.old ≤ faults_of self.new }
+        ensures quiet { OnOk result (faults_of self.new ≡ faults_of self.old) }
         ensures failed { OnErr result (Rose (faults_of self.old) (faults_of self.new)) }
 
         // By the call's number.
@@ -180,6 +182,7 @@ impl Disk for MemDisk {
         ensures torn { OnErr result (FailsInPart (write_change place (length bytes.now)) (contents self.old) (contents self.new)) }
         ensures called { calls_of self.new ≡ calls_after (calls_of self.old) 1 }
         ensures counts { faults_of self.old ≤ faults_of self.new }
+        ensures quiet { OnOk result (faults_of self.new ≡ faults_of self.old) }
         ensures failed { OnErr result (Rose (faults_of self.old) (faults_of self.new)) }
 
         // By the call's number: of one that is torn the first half is written.
@@ -214,6 +217,7 @@ impl Disk for MemDisk {
         ensures torn { OnErr result (FailsInPart (cut_change length) (contents self.old) (contents self.new)) }
         ensures called { calls_of self.new ≡ calls_after (calls_of self.old) 1 }
         ensures counts { faults_of self.old ≤ faults_of self.new }
+        ensures quiet { OnOk result (faults_of self.new ≡ faults_of self.old) }
         ensures failed { OnErr result (Rose (faults_of self.old) (faults_of self.new)) }
 
         // By the call's number: one that is torn is made.
@@ -245,6 +249,7 @@ impl Disk for MemDisk {
         ensures same { OnErr result (contents self.new ≡ contents self.old) }
         ensures called { calls_of self.new ≡ calls_after (calls_of self.old) 1 }
         ensures counts { faults_of self.old ≤ faults_of self.new }
+        ensures quiet { OnOk result (faults_of self.new ≡ faults_of self.old) }
         ensures failed { OnErr result (Rose (faults_of self.old) (faults_of self.new)) }
 
         // By the call's number.

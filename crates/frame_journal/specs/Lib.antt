@@ -1,7 +1,13 @@
 pub mod Calls
+pub mod Generation
 pub mod JournalState
 pub mod Layout
+pub mod Older
+pub mod PairCalls
+pub mod PairState
 pub mod Reading
 pub mod Resting
+pub mod SpareState
+pub mod SpareSteps
 pub mod Standing
 pub mod Steps

@@ -74,6 +74,8 @@ pub fn commit<D: Disk>(disk: &mut D, gate: u64, bytes: &[u8]) -> Result<(), Comm
         → LeavesSince (D.history disk.old) (D.history disk.new) (OpensWithOneMore payloads payload) }
     ensures calls { OnOk result (D.calls disk.new ≡ calls_after (D.calls disk.old) 4) }
     ensures counts { D.faults disk.old ≤ D.faults disk.new }
+    ensures quiet { OnOk result (D.faults disk.new ≡ D.faults disk.old) }
+    ensures silent { D.history disk.old ≡ [] → D.history disk.new ≡ [] }
     ensures failed { OnErr result (Rose (D.faults disk.old) (D.faults disk.new)) }
 {
     if write_synced(disk, gate + 1, bytes).is_err() {

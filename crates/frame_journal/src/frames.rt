@@ -1,5 +1,5 @@
 //! Frames as they are read from a disk.
-ghost use Rattle.std.specs.Prelude.{◌≡◌, ℕ, ◌+◌, ◌^◌, ◌<◌, ◌≤◌, List, [], length, take, drop, IfOk, IfErr, IfSome, IsSomeAnd, OnErr, IsErrOf, ◌≢◌};
+ghost use Rattle.std.specs.Prelude.{◌≡◌, ℕ, ◌+◌, ◌^◌, ◌<◌, ◌≤◌, List, [], length, take, drop, IfOk, IfErr, IfSome, IsSomeAnd, OnErr, IsErrOf, ◌≢◌, OnOk};
 ghost use Rattle.std.specs.Int.{w64, from_be_bytes, to_be_bytes};
 ghost use Rattle.fault_count.specs.Rose.{Rose};
 ghost use Rattle.disk_model.specs.Disk.{OnTold, ReadsAt};
@@ -60,6 +60,7 @@ pub fn whole_frames<D: Disk>(alloc: Global, disk: &mut D) -> Result<Frames, Open
     ensures same { D.history disk.new ≡ D.history disk.old }
     ensures no_bad { IfErr result (λ e. (n : ℕ) → e ≢ OpenError.BadFrame n) }
     ensures counts { D.faults disk.old ≤ D.faults disk.new }
+    ensures quiet { OnOk result (D.faults disk.new ≡ D.faults disk.old) }
     ensures failed { IsErrOf result OpenError.DiskFault → Rose (D.faults disk.old) (D.faults disk.new) }
 {
     let end = disk.length()?;
@@ -92,6 +93,7 @@ pub fn read_frames<D: Disk>(alloc: Global, disk: &mut D, end: u64) -> Result<Fra
     ensures no_bad { IfErr result (λ e. (n : ℕ) → e ≢ OpenError.BadFrame n) }
     ensures same { D.history disk.new ≡ D.history disk.old }
     ensures counts { D.faults disk.old ≤ D.faults disk.new }
+    ensures quiet { OnOk result (D.faults disk.new ≡ D.faults disk.old) }
     ensures failed { IsErrOf result OpenError.DiskFault → Rose (D.faults disk.old) (D.faults disk.new) }
 {
     let mut payloads: Vec<Vec<u8>> = Vec::new(alloc);
@@ -135,6 +137,7 @@ fn read_frame<D: Disk>(
     ensures no_bad { IfErr result (λ e. (n : ℕ) → e ≢ OpenError.BadFrame n) }
     ensures same { D.history disk.new ≡ D.history disk.old }
     ensures counts { D.faults disk.old ≤ D.faults disk.new }
+    ensures quiet { OnOk result (D.faults disk.new ≡ D.faults disk.old) }
     ensures failed { IsErrOf result OpenError.DiskFault → Rose (D.faults disk.old) (D.faults disk.new) }
 {
     let count = match read_head(disk, place)? {
@@ -165,6 +168,7 @@ fn read_payload<D: Disk>(
     ensures no_bad { IfErr result (λ e. (n : ℕ) → e ≢ OpenError.BadFrame n) }
     ensures same { D.history disk.new ≡ D.history disk.old }
     ensures counts { D.faults disk.old ≤ D.faults disk.new }
+    ensures quiet { OnOk result (D.faults disk.new ≡ D.faults disk.old) }
     ensures failed { IsErrOf result OpenError.DiskFault → Rose (D.faults disk.old) (D.faults disk.new) }
 {
     let mut payload = zeros(alloc, count as usize)?;
@@ -182,6 +186,7 @@ fn read_into<D: Disk>(disk: &mut D, place: u64, into: &mut Vec<u8>) -> Result<us
     ensures bound { IfOk result (λ n. n ≤ length into.old.items) }
     ensures same { D.history disk.new ≡ D.history disk.old }
     ensures counts { D.faults disk.old ≤ D.faults disk.new }
+    ensures quiet { OnOk result (D.faults disk.new ≡ D.faults disk.old) }
     ensures failed { OnErr result (Rose (D.faults disk.old) (D.faults disk.new)) }
 {
     disk.read(place, into)
@@ -193,6 +198,7 @@ fn read_head<D: Disk>(disk: &mut D, place: u64) -> Result<Head, Failed>
     ensures head { IfOk result (λ head. OnTold (D.history disk.old) (λ now. IsHeadOf head (drop place now.bytes))) }
     ensures same { D.history disk.new ≡ D.history disk.old }
     ensures counts { D.faults disk.old ≤ D.faults disk.new }
+    ensures quiet { OnOk result (D.faults disk.new ≡ D.faults disk.old) }
     ensures failed { IfErr result (λ _. Rose (D.faults disk.old) (D.faults disk.new)) }
 {
     let mut head = [0u8; HEAD_BYTES];

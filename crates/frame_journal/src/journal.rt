@@ -1,11 +1,11 @@
 //! A journal.
-ghost use Rattle.std.specs.Prelude.{◌≡◌, ◌≢◌, ◌↔◌, ℕ, ◌≤◌, [], ◌∷◌, ◌++◌, List, Bool, true, false, IsTrue, Option, Some, None, IfOk, IfErr, OnOk, OnErr, IsErrOf};
+ghost use Rattle.std.specs.Prelude.{◌≡◌, ◌≢◌, ◌↔◌, ℕ, ◌+◌, ◌^◌, ◌<◌, ◌≤◌, [], ◌∷◌, ◌++◌, List, Bool, true, false, IsTrue, Option, Some, None, IfOk, IfErr, OnOk, OnErr, IsErrOf};
 ghost use Rattle.fault_count.specs.Rose.{Rose};
 ghost use Rattle.disk_model.specs.Disk.{OnTold, calls_after};
 ghost use Rattle.disk_model.specs.Moments.{LeavesAfter};
 ghost use Rattle.frame_journal.specs.Layout.{OpensWith, IsBadFrame};
 ghost use Rattle.frame_journal.specs.Reading.{payloads_of};
-ghost use Rattle.frame_journal.specs.Resting.{Rests};
+ghost use Rattle.frame_journal.specs.Resting.{IsResting, Rests};
 ghost use Rattle.frame_journal.specs.JournalState.{LeavesJournal};
 ghost use Rattle.frame_journal.specs.Calls.{IsStep, append_call, reopen_call};
 
@@ -16,6 +16,7 @@ use crate::standing::{Standing, ready_again};
 use disk_model::Disk;
 use std::alloc::Global;
 use std::marker::Model;
+use std::mem;
 
 /// A journal on a disk: payloads in order, each acknowledged once a crash keeps it.
 ///
@@ -71,8 +72,12 @@ impl<D: Disk> Journal<D> {
 
         // A fault has its cause.
         ensures fault { IfErr result (λ e. e.0 ≡ OpenError.DiskFault → Rose (D.faults disk) (D.faults e.1)) }
-        ensures counts { IfOk result (λ journal. D.faults disk ≤ D.faults journal.disk) }
+        ensures counts { IfOk result (λ journal. D.faults journal.disk ≡ D.faults disk) }
         ensures counts_err { IfErr result (λ e. D.faults disk ≤ D.faults e.1) }
+
+        // A disk that tells nothing goes on so.
+        ensures silent { IfOk result (λ journal. D.history disk ≡ [] → D.history journal.disk ≡ []) }
+        ensures silent_err { IfErr result (λ e. D.history disk ≡ [] → D.history e.1 ≡ []) }
     {
         let mut disk = disk;
         match settle(alloc, &mut disk) {
@@ -105,6 +110,10 @@ impl<D: Disk> Journal<D> {
             → (self.new.closed ≡ true) × (self.new.pending ≡ Some (self.old.payloads ++ (head.now ++ body.now) ∷ [])) }
         ensures calls { OnOk result (D.calls self.new.disk ≡ calls_after (D.calls self.old.disk) 4) }
         ensures counts { D.faults self.old.disk ≤ D.faults self.new.disk }
+        ensures quiet { OnOk result (D.faults self.new.disk ≡ D.faults self.old.disk) }
+
+        // A disk that tells nothing goes on so.
+        ensures silent { D.history self.old.disk ≡ [] → D.history self.new.disk ≡ [] }
     {
         if self.standing.is_closed() {
             return Err(AppendError::Closed);
@@ -145,6 +154,10 @@ impl<D: Disk> Journal<D> {
         ensures fault { IsErrOf result OpenError.DiskFault → Rose (D.faults self.old.disk) (D.faults self.new.disk) }
         ensures fault_closes { IsErrOf result OpenError.DiskFault → self.new.closed ≡ true }
         ensures counts { D.faults self.old.disk ≤ D.faults self.new.disk }
+        ensures quiet { OnOk result (D.faults self.new.disk ≡ D.faults self.old.disk) }
+
+        // A disk that tells nothing goes on so.
+        ensures silent { D.history self.old.disk ≡ [] → D.history self.new.disk ≡ [] }
     {
         match ready_again(alloc, &mut self.disk, self.gate, &mut self.standing) {
             Ok(read) => {
@@ -155,6 +168,21 @@ impl<D: Disk> Journal<D> {
             }
             Err(error) => Err(error),
         }
+    }
+
+    /// Goes on with another disk, at rest with these payloads, and leaves its own in its place.
+    pub(crate) fn move_to(&mut self, disk: &mut D, payloads: Vec<Vec<u8>>, gate: u64)
+        requires within { gate + 1 < 2 ^ 63 }
+        requires rests { OnTold (D.history disk.old) (λ now. IsResting (payloads_of payloads.items) gate now) }
+        ensures here { self.new.disk ≡ disk.old }
+        ensures there { disk.new ≡ self.old.disk }
+        ensures payloads { self.new.payloads ≡ payloads_of payloads.items }
+        ensures open { (self.new.closed ≡ false) × (self.new.pending ≡ None) }
+    {
+        mem::swap(&mut self.disk, disk);
+        self.payloads = payloads;
+        self.gate = gate;
+        self.standing = Standing::Open;
     }
 
     /// The acknowledged payloads, in order. It takes no memory.

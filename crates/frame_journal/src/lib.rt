@@ -16,15 +16,21 @@
 //! The test `an_appended_frame_is_found` of `disk_tests` makes these calls.
 #![tactic(auto)]
 
+mod checkpoint;
 mod commit;
 mod device;
 mod error;
 mod frames;
+mod generation;
 mod journal;
 pub mod laws;
+mod paired;
 mod settling;
+mod spare;
 mod standing;
 
 pub use error::{AppendError, OpenError};
 pub use frames::{Ending, Frames, whole_frames};
+pub use generation::is_generation;
 pub use journal::Journal;
+pub use paired::PairedJournal;

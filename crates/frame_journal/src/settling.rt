@@ -1,5 +1,5 @@
 //! A disk is made ready for appends.
-ghost use Rattle.std.specs.Prelude.{◌≡◌, ◌≢◌, ℕ, ◌+◌, ◌^◌, ◌<◌, ◌≤◌, List, IfOk, IfErr, IsErrOf};
+ghost use Rattle.std.specs.Prelude.{◌≡◌, ◌≢◌, ℕ, ◌+◌, ◌^◌, ◌<◌, ◌≤◌, List, IfOk, IfErr, IsErrOf, OnOk, []};
 ghost use Rattle.fault_count.specs.Rose.{Rose};
 ghost use Rattle.disk_model.specs.Disk.{OnTold, Syncs};
 ghost use Rattle.disk_model.specs.Moments.{LeavesAfter};
@@ -26,6 +26,8 @@ pub fn settle<D: Disk>(alloc: Global, disk: &mut D) -> Result<Frames, OpenError>
         → LeavesAfter (D.history disk.old) (D.history disk.new) (OpensWith payloads) }
     ensures synced { IfErr result (λ e. e ≢ OpenError.DiskFault → Syncs (D.history disk.old) (D.history disk.new)) }
     ensures counts { D.faults disk.old ≤ D.faults disk.new }
+    ensures quiet { OnOk result (D.faults disk.new ≡ D.faults disk.old) }
+    ensures silent { D.history disk.old ≡ [] → D.history disk.new ≡ [] }
     ensures failed { IsErrOf result OpenError.DiskFault → Rose (D.faults disk.old) (D.faults disk.new) }
 {
     disk.sync()?;

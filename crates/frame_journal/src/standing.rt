@@ -112,6 +112,8 @@ pub fn ready_again<D: Disk>(
     ensures moments { (payloads : List (List ℕ)) → OnTold (D.history disk.old) (λ now. Stands standing.old payloads gate now)
         → LeavesSince (D.history disk.old) (D.history disk.new) (MayOpenWith payloads (pending_of standing.old payloads)) }
     ensures counts { D.faults disk.old ≤ D.faults disk.new }
+    ensures quiet { OnOk result (D.faults disk.new ≡ D.faults disk.old) }
+    ensures silent { D.history disk.old ≡ [] → D.history disk.new ≡ [] }
     ensures failed { IsErrOf result OpenError.DiskFault → Rose (D.faults disk.old) (D.faults disk.new) }
 {
     if shut_refused(disk, gate, standing).is_err() {
@@ -139,6 +141,8 @@ fn shut_refused<D: Disk>(disk: &mut D, gate: u64, standing: &mut Standing) -> Re
     ensures later { (payloads : List (List ℕ)) → OnTold (D.history disk.old) (λ now. Stands standing.old payloads gate now)
         → LeavesAfter (D.history disk.old) (D.history disk.new) (MayOpenWith payloads (pending_of standing.old payloads)) }
     ensures counts { D.faults disk.old ≤ D.faults disk.new }
+    ensures quiet { OnOk result (D.faults disk.new ≡ D.faults disk.old) }
+    ensures silent { D.history disk.old ≡ [] → D.history disk.new ≡ [] }
     ensures failed { OnErr result (Rose (D.faults disk.old) (D.faults disk.new)) }
 {
     if !standing.is_staged() {
