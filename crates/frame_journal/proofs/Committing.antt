@@ -3,17 +3,11 @@ use Rattle.std.proofs.Common.{◌≡◌, inl, inr, ℕ, zero, ◌+◌, ◌-◌, 
 use Rattle.std.proofs.lemmas.Bool.{cases_eq}
 use Rattle.std.proofs.lemmas.List.{length-append, take_all, drop_all, append-nil, take-append-drop, take_at, drop_at, drop_more}
 use Rattle.disk_model.specs.Content.{TornWrite, written_over}
-use Rattle.disk_model.proofs.Overwriting.{written_some}
 use Rattle.frame_journal.specs.Layout.{block, frame, frames, IsPayload, OpensWith, OpensWithOneMore, IsAtRest, IsStaged}
 use Rattle.frame_journal.proofs.Spelling.{length-frame}
+use Rattle.frame_journal.specs.Older.{StandsBehind}
+use Rattle.frame_journal.proofs.Gates.{no_gap, byte_inside, byte_torn, byte_written}
 use Rattle.frame_journal.proofs.Found.{frames-push, fit-push}
-
--- a write within the bytes leaves no gap
-no_gap : (old : List ℕ) (place : ℕ) (bytes : List ℕ) → 0 < length bytes → place ≤ length old → written_over old place bytes ≡ take place old ++ bytes ++ drop (place + length bytes) old
-no_gap old place bytes some inside =
-    let none : place - length old ≡ zero = omega arith in
-    written_some old place bytes some ∙ ap (λ k. take place old ++ replicate k 0 ++ bytes ++ drop (place + length bytes) old) none
-    ∙ ap (λ l. l ++ bytes ++ drop (place + length bytes) old) (append-nil (take place old))
 
 module _ (ps : List (List ℕ)) (place : ℕ) where
   length-rest : (file : List ℕ) → IsAtRest ps place file → length file ≡ place + 1
@@ -59,41 +53,21 @@ module _ (ps : List (List ℕ)) (place : ℕ) where
     abbrev end : List ℕ
     end = block q ++ 0 ∷ []
 
-    gate_front : (file : List ℕ) → IsStaged ps q place file → take place file ≡ frames ps
-    gate_front file staged = ap (take place) staged.split ∙ take_at (frames ps) (staged.gate ∷ end) place (sym staged.at)
-
-    gate_behind : (file : List ℕ) → IsStaged ps q place file → drop (place + 1) file ≡ end
-    gate_behind file staged =
-        let at : length (frames ps ++ staged.gate ∷ []) ≡ place + 1 = omega (arith, length-append (frames ps) (staged.gate ∷ []), staged.at) in
-        ap (drop (place + 1)) (staged.split ∙ sym (append_assoc (frames ps) (staged.gate ∷ []) end)) ∙ drop_at (frames ps ++ staged.gate ∷ []) end (place + 1) at
+    -- the gate, with the frame behind it
+    gated : (file : List ℕ) → IsStaged ps q place file → StandsBehind (frames ps) end file
+    gated file staged = record { gate = staged.gate; split = staged.split }
 
     pub gate_inside : (file : List ℕ) → IsStaged ps q place file → place < length file
-    gate_inside file staged = omega (arith, ap length staged.split, length-append (frames ps) (staged.gate ∷ end), staged.at)
+    gate_inside file staged = byte_inside (frames ps) end place staged.at file (gated file staged)
 
     -- the gate, torn anyhow
     pub gate_staged : (file image : List ℕ) → IsStaged ps q place file → TornWrite (min place (length file)) (place + 1) file image → IsStaged ps q place image
     gate_staged file image staged torn =
-        let inside = gate_inside file staged in
-        let at : min place (length file) ≡ place = omega (arith, inside) in
-        let front : take place image ≡ frames ps = subst (λ k. take k image ≡ take k file) at torn.before ∙ gate_front file staged in
-        let gate = get_or image place 0 in
-        let behind : drop place image ≡ gate ∷ end =
-        drop_more image place 0 (omega (arith, torn.no_shorter, inside)) ∙ ap (λ l. gate ∷ l) (torn.behind ∙ gate_behind file staged) in
-        record {
-          gate = gate;
-          split = sym (take-append-drop place image) ∙ ap (λ l. l ++ drop place image) front ∙ ap (λ l. frames ps ++ l) behind;
-          fit = staged.fit;
-          fits = staged.fits;
-          at = staged.at;
-        }
+        let torn_gate = byte_torn (frames ps) end place staged.at file image (gated file staged) torn in
+        record { gate = torn_gate.gate; split = torn_gate.split; fit = staged.fit; fits = staged.fits; at = staged.at }
 
     gate_written : (file : List ℕ) (byte : ℕ) → IsStaged ps q place file → written_over file place (byte ∷ []) ≡ frames ps ++ byte ∷ end
-    gate_written file byte staged =
-        let inside = gate_inside file staged in
-        no_gap file place (byte ∷ []) (omega arith) (omega (arith, inside))
-        ∙ ap (λ l. l ++ (byte ∷ []) ++ drop (place + 1) file) (gate_front file staged)
-        ∙ ap (λ l. frames ps ++ (byte ∷ []) ++ l) (gate_behind file staged)
-        ∙ append_assoc (frames ps) (byte ∷ []) end
+    gate_written file byte staged = byte_written (frames ps) end place staged.at file byte (gated file staged)
 
     one_more : frames ps ++ 1 ∷ end ≡ frames (ps ++ q ∷ []) ++ 0 ∷ []
     one_more = sym (append_assoc (frames ps) (frame q) (0 ∷ [])) ∙ ap (λ l. l ++ 0 ∷ []) (sym (frames-push ps q))

@@ -1,7 +1,7 @@
 -- What crashes leave after one device call more.
 use Rattle.std.proofs.Common.{◌≡◌, inl, inr, ℕ, ◌+◌, List, [], ◌∷◌, length, take, refl, sym, subst, arith}
 use Rattle.disk_model.specs.Content.{Content, Change, Tears, LeavesOnly, written_over, settled, changed, write_change, cut_change}
-use Rattle.disk_model.specs.Disk.{OnTold, Syncs, FailsInPart}
+use Rattle.disk_model.specs.Disk.{OnTold, Syncs, Cuts, FailsInPart}
 use Rattle.disk_model.specs.Moments.{LeftAfter, LeavesAfter, LeavesSince}
 use Rattle.disk_model.proofs.Overwriting.{written_tears, cut_tears}
 use Rattle.disk_model.proofs.Moments.{goes_nowhere, goes_on_by, go_on, no_shorter, none_left, one_more_left, split_left, newest_left}
@@ -110,6 +110,12 @@ pub then_cuts : (old mid new : List Content) (n : ℕ) (P : List ℕ → Type 0)
 then_cuts old [] new n P so_far ready is = subst (λ l. LeavesAfter old l P) (sym is) so_far
 then_cuts old (now ∷ past) new n P so_far ready is =
     two_more old (now ∷ past) new P now (cut_change n) (take n now.bytes) so_far ready (cut_tears n now.bytes) is
+
+-- a cut alone
+pub then_cut : (old mid new : List Content) (n : ℕ) (P : List ℕ → Type 0) → LeavesAfter old mid P → OnTold mid (IsReady (cut_change n) P) → Cuts n mid new → LeavesAfter old new P
+then_cut old [] new n P so_far ready is = subst (λ l. LeavesAfter old l P) (sym is) so_far
+then_cut old (now ∷ past) new n P so_far ready is =
+    more_leaves old (now ∷ past) new P (changed now (cut_change n now) (take n now.bytes)) so_far (ready (take n now.bytes) (cut_tears n now.bytes)).0 is
 
 -- after a change that failed, a crash leaves what has P, if it did before
 pub now_failed : (old new : List Content) (change : Content → Change) (P : List ℕ → Type 0) → OnTold old (λ now. LeavesOnly now P) → OnTold old (IsReady change P) → FailsInPart change old new → OnTold new (λ now. LeavesOnly now P)

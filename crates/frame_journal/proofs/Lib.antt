@@ -1,7 +1,11 @@
 pub mod Appending
+pub mod Checkpointing
+pub mod Clearing
 pub mod Committing
 pub mod Found
+pub mod Gates
 pub mod Leaving
+pub mod Olders
 pub mod Openings
 pub mod Reopening
 pub mod Repairing

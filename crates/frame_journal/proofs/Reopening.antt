@@ -54,7 +54,7 @@ opens_now s history ps gate shut stands =
     told_from history (λ now. LeavesOnly now (OpensWith ps)) (λ now. OpensWith ps now.bytes) (λ now leaves. leaves now.bytes (inl refl)) (opens_only s history ps gate shut stands)
 
 -- what is known of the newest content after a run
-newest : (mid new : List Content) (P : List ℕ → Type 0) → OnTold mid (λ now. LeavesOnly now P) → LeavesAfter mid new P → OnTold new (λ now. LeavesOnly now P)
+pub newest : (mid new : List Content) (P : List ℕ → Type 0) → OnTold mid (λ now. LeavesOnly now P) → LeavesAfter mid new P → OnTold new (λ now. LeavesOnly now P)
 newest mid new P here run = newest_leaves mid new P (since_from mid new P here run)
 
 pub fault_stands : (s : Standing) (mid new : List Content) (ps : List (List ℕ)) (gate : ℕ) → (MayBeOpen s → ⊥) → OnTold mid (λ now. Stands s ps gate now) → LeavesAfter mid new (OpensWith ps) → OnTold new (λ now. Stands (after_fault s) ps gate now)

@@ -1,5 +1,7 @@
 //! A checkpoint goes to the spare disk.
 ghost use Rattle.std.specs.Prelude.{◌≡◌, ◌⊎◌, ℕ, ◌+◌, ◌-◌, ◌^◌, ◌<◌, ◌≤◌, [], List, length, drop, OnOk, OnErr};
+ghost use Rattle.std.specs.Prelude.{Bool, ◌∷◌};
+ghost use Rattle.frame_journal.specs.PairState.{LosesTo};
 ghost use Rattle.fault_count.specs.Rose.{Rose};
 ghost use Rattle.disk_model.specs.Disk.{OnTold, calls_after};
 ghost use Rattle.disk_model.specs.Content.{LeavesOnly, settled};
@@ -30,12 +32,12 @@ pub fn write_checkpoint<D: Disk>(disk: &mut D, behind: &[u8]) -> Result<(), Chec
     ensures room { OnOk result (1 + length behind.now < 2 ^ 63) }
 
     // What stands then, whichever generations lose, and whatever the frames are.
-    ensures leaves { (loses : ℕ → Type 0) (payload : List ℕ) (payloads : List (List ℕ)) → ArePayloads (payload ∷ payloads) → behind.now ≡ behind_first (payload ∷ payloads)
-        → loses 0 → OnTold (D.history disk.old) (λ now. LeavesOnly now (IsOlder loses))
-        → OnTold (D.history disk.new) (λ now. CheckpointLeaves result loses (payload ∷ payloads) now) }
-    ensures moments { (loses : ℕ → Type 0) (payload : List ℕ) (payloads : List (List ℕ)) → ArePayloads (payload ∷ payloads) → behind.now ≡ behind_first (payload ∷ payloads)
-        → loses 0 → OnTold (D.history disk.old) (λ now. LeavesOnly now (IsOlder loses))
-        → LeavesSince (D.history disk.old) (D.history disk.new) (λ image. OpensLesser loses image ⊎ OpensWith (payload ∷ payloads) image) }
+    ensures leaves { (on_second : Bool) (generation : ℕ) (payload : List ℕ) (payloads : List (List ℕ)) → ArePayloads (payload ∷ payloads) → behind.now ≡ behind_first (payload ∷ payloads)
+        → LosesTo on_second generation 0 → OnTold (D.history disk.old) (λ now. LeavesOnly now (IsOlder (LosesTo on_second generation)))
+        → OnTold (D.history disk.new) (λ now. CheckpointLeaves result (LosesTo on_second generation) (payload ∷ payloads) now) }
+    ensures moments { (on_second : Bool) (generation : ℕ) (payload : List ℕ) (payloads : List (List ℕ)) → ArePayloads (payload ∷ payloads) → behind.now ≡ behind_first (payload ∷ payloads)
+        → LosesTo on_second generation 0 → OnTold (D.history disk.old) (λ now. LeavesOnly now (IsOlder (LosesTo on_second generation)))
+        → LeavesSince (D.history disk.old) (D.history disk.new) (λ image. OpensLesser (LosesTo on_second generation) image ⊎ OpensWith (payload ∷ payloads) image) }
     ensures calls { OnOk result (D.calls disk.new ≡ calls_after (D.calls disk.old) 7) }
     ensures counts { D.faults disk.old ≤ D.faults disk.new }
     ensures quiet { OnOk result (D.faults disk.new ≡ D.faults disk.old) }
@@ -59,8 +61,6 @@ fn replace_behind<D: Disk>(disk: &mut D, behind: &[u8]) -> Result<(), Failed>
     ensures room { OnOk result (1 + length behind.now < 2 ^ 63) }
     ensures made { OnOk result (OnTold (D.history disk.old) (λ now. (now ≡ settled now.bytes) × BeginsShut now.bytes)
         → OnTold (D.history disk.new) (λ now. (now ≡ settled now.bytes) × StandsBehind [] behind.now now.bytes)) }
-    ensures shut { OnErr result (OnTold (D.history disk.old) (λ now. LeavesOnly now BeginsShut)
-        → OnTold (D.history disk.new) (λ now. LeavesOnly now BeginsShut)) }
     ensures moments { OnTold (D.history disk.old) (λ now. LeavesOnly now BeginsShut)
         → LeavesAfter (D.history disk.old) (D.history disk.new) BeginsShut }
     ensures calls { OnOk result (D.calls disk.new ≡ calls_after (D.calls disk.old) 3) }

@@ -1,5 +1,5 @@
 //! The generation of a journal, and the frames of a checkpoint.
-ghost use Rattle.std.specs.Prelude.{◌≡◌, ℕ, ◌+◌, ◌^◌, ◌<◌, ◌++◌, [], ◌∷◌, List, length, IfOk};
+ghost use Rattle.std.specs.Prelude.{◌≡◌, ℕ, ◌+◌, ◌^◌, ◌<◌, ◌++◌, [], ◌∷◌, List, length, IfOk, IsTrue};
 ghost use Rattle.frame_journal.specs.Layout.{frame, frames, IsPayload, ArePayloads};
 ghost use Rattle.frame_journal.specs.Reading.{payloads_of};
 ghost use Rattle.frame_journal.specs.Generation.{is_generation, number_in, generation_payload, generation_of, checkpoint_of};
@@ -17,7 +17,8 @@ const GENERATION_HEAD: [u8; 17] = [2, 0, 0, 0, 0, 0, 0, 0, 0, 0, 0, 0, 0, 0, 0, 
 /// for its generation.
 #[tactic(auto, unfolding(crate::specs::Generation::is_generation))]
 pub fn is_generation(payload: &[u8]) -> bool
-    ensures { result ≡ is_generation payload.now }
+    ensures is { result ≡ is_generation payload.now }
+    ensures long { IsTrue result → length payload.now ≡ 25 }
 {
     if payload.len() != GENERATION_BYTES {
         return false;

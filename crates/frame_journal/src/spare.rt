@@ -1,9 +1,11 @@
 //! How a journal on two disks stands with its spare disk.
 ghost use Rattle.std.specs.Prelude.{◌≡◌, ◌↔◌, ℕ, ◌≤◌, List, IsTrue, OnOk, OnErr};
+ghost use Rattle.std.specs.Prelude.{Bool};
+ghost use Rattle.frame_journal.specs.PairState.{LosesTo};
 ghost use Rattle.fault_count.specs.Rose.{Rose};
 ghost use Rattle.disk_model.specs.Disk.{OnTold};
 ghost use Rattle.disk_model.specs.Moments.{LeavesAfter};
-ghost use Rattle.std.specs.Prelude.{true};
+ghost use Rattle.std.specs.Prelude.{true, ◌+◌};
 ghost use Rattle.frame_journal.specs.Older.{OpensLesser};
 ghost use Rattle.frame_journal.specs.SpareState.{is_refused, StandsSpare, MayCount, IsUncut, MayOpenSpare, IsRaised, refused_frames, after_shutting_spare, after_cutting_spare};
 
@@ -101,11 +103,11 @@ pub fn clear_spare<D: Disk>(disk: &mut D, spare: &mut Spare) -> Result<(), Faile
     ensures cleared { OnOk result ((MayCount spare.new → ⊥) × (IsUncut spare.new → ⊥)) }
     ensures refused { refused_frames spare.new ≡ refused_frames spare.old }
     ensures err { OnErr result (is_refused spare.old ≡ true) }
-    ensures stands { (loses : ℕ → Type 0) → loses 0 → OnTold (D.history disk.old) (λ now. StandsSpare spare.old loses now)
-        → OnTold (D.history disk.new) (λ now. StandsSpare spare.new loses now) }
-    ensures later { (loses : ℕ → Type 0) (generation : ℕ) → loses 0 → IsRaised (refused_frames spare.old) generation
-        → OnTold (D.history disk.old) (λ now. StandsSpare spare.old loses now)
-        → LeavesAfter (D.history disk.old) (D.history disk.new) (MayOpenSpare (refused_frames spare.old) loses) }
+    ensures stands { (on_second : Bool) (generation : ℕ) → LosesTo on_second generation 0 → OnTold (D.history disk.old) (λ now. StandsSpare spare.old (LosesTo on_second generation) now)
+        → OnTold (D.history disk.new) (λ now. StandsSpare spare.new (LosesTo on_second generation) now) }
+    ensures later { (on_second : Bool) (generation : ℕ) → LosesTo on_second generation 0 → IsRaised (refused_frames spare.old) (generation + 1)
+        → OnTold (D.history disk.old) (λ now. StandsSpare spare.old (LosesTo on_second generation) now)
+        → LeavesAfter (D.history disk.old) (D.history disk.new) (MayOpenSpare (refused_frames spare.old) (LosesTo on_second generation)) }
     ensures counts { D.faults disk.old ≤ D.faults disk.new }
     ensures quiet { OnOk result (D.faults disk.new ≡ D.faults disk.old) }
     ensures failed { OnErr result (Rose (D.faults disk.old) (D.faults disk.new)) }
@@ -119,11 +121,11 @@ fn shut_spare<D: Disk>(disk: &mut D, spare: &mut Spare) -> Result<(), Failed>
     ensures shut { OnOk result (MayCount spare.new → ⊥) }
     ensures refused { refused_frames spare.new ≡ refused_frames spare.old }
     ensures err { OnErr result (is_refused spare.old ≡ true) }
-    ensures stands { (loses : ℕ → Type 0) → OnTold (D.history disk.old) (λ now. StandsSpare spare.old loses now)
-        → OnTold (D.history disk.new) (λ now. StandsSpare spare.new loses now) }
-    ensures later { (loses : ℕ → Type 0) (generation : ℕ) → loses 0 → IsRaised (refused_frames spare.old) generation
-        → OnTold (D.history disk.old) (λ now. StandsSpare spare.old loses now)
-        → LeavesAfter (D.history disk.old) (D.history disk.new) (MayOpenSpare (refused_frames spare.old) loses) }
+    ensures stands { (on_second : Bool) (generation : ℕ) → OnTold (D.history disk.old) (λ now. StandsSpare spare.old (LosesTo on_second generation) now)
+        → OnTold (D.history disk.new) (λ now. StandsSpare spare.new (LosesTo on_second generation) now) }
+    ensures later { (on_second : Bool) (generation : ℕ) → LosesTo on_second generation 0 → IsRaised (refused_frames spare.old) (generation + 1)
+        → OnTold (D.history disk.old) (λ now. StandsSpare spare.old (LosesTo on_second generation) now)
+        → LeavesAfter (D.history disk.old) (D.history disk.new) (MayOpenSpare (refused_frames spare.old) (LosesTo on_second generation)) }
     ensures counts { D.faults disk.old ≤ D.faults disk.new }
     ensures quiet { OnOk result (D.faults disk.new ≡ D.faults disk.old) }
     ensures failed { OnErr result (Rose (D.faults disk.old) (D.faults disk.new)) }
@@ -142,10 +144,10 @@ fn cut_spare<D: Disk>(disk: &mut D, spare: &mut Spare) -> Result<(), Failed>
     ensures shut { (MayCount spare.old → ⊥) → MayCount spare.new → ⊥ }
     ensures refused { refused_frames spare.new ≡ refused_frames spare.old }
     ensures err { OnErr result (is_refused spare.old ≡ true) }
-    ensures stands { (loses : ℕ → Type 0) → loses 0 → OnTold (D.history disk.old) (λ now. StandsSpare spare.old loses now)
-        → OnTold (D.history disk.new) (λ now. StandsSpare spare.new loses now) }
-    ensures later { (loses : ℕ → Type 0) → loses 0 → OnTold (D.history disk.old) (λ now. StandsSpare spare.old loses now)
-        → LeavesAfter (D.history disk.old) (D.history disk.new) (OpensLesser loses) }
+    ensures stands { (on_second : Bool) (generation : ℕ) → LosesTo on_second generation 0 → OnTold (D.history disk.old) (λ now. StandsSpare spare.old (LosesTo on_second generation) now)
+        → OnTold (D.history disk.new) (λ now. StandsSpare spare.new (LosesTo on_second generation) now) }
+    ensures later { (on_second : Bool) (generation : ℕ) → LosesTo on_second generation 0 → OnTold (D.history disk.old) (λ now. StandsSpare spare.old (LosesTo on_second generation) now)
+        → LeavesAfter (D.history disk.old) (D.history disk.new) (OpensLesser (LosesTo on_second generation)) }
     ensures counts { D.faults disk.old ≤ D.faults disk.new }
     ensures quiet { OnOk result (D.faults disk.new ≡ D.faults disk.old) }
     ensures failed { OnErr result (Rose (D.faults disk.old) (D.faults disk.new)) }
