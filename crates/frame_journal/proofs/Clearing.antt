@@ -1,6 +1,6 @@
 -- What a refused checkpoint left is taken from the spare disk.
-use Rattle.std.proofs.Common.{◌≡◌, ◌⊎◌, inl, inr, ℕ, ◌+◌, ◌<◌, Option, Some, None, List, [], ◌∷◌, length, take, refl, sym, subst, arith}
-use Rattle.disk_model.specs.Content.{Content, LeavesOnly, settled, written_over, write_change, cut_change}
+use Rattle.std.proofs.Common.{◌≡◌, ◌⊎◌, inl, inr, ℕ, ◌+◌, ◌<◌, min, Option, Some, None, List, [], ◌∷◌, length, take, refl, sym, subst, arith}
+use Rattle.disk_model.specs.Content.{Content, TornWrite, LeavesOnly, settled, written_over, write_change, cut_change}
 use Rattle.disk_model.specs.Disk.{OnTold, FailsInPart}
 use Rattle.disk_model.specs.Moments.{LeavesAfter}
 use Rattle.frame_journal.specs.Layout.{ArePayloads, OpensWith}
@@ -40,7 +40,9 @@ spare_leaves (spare.Staged fs) history loses generation least raised stands =
 -- a write at the first gate leaves what stands behind it
 gate_ready : (history : List Content) (behind : List ℕ) → OnTold history (λ now. LeavesOnly now (StandsBehind [] behind)) → OnTold history (IsReady (write_change 0 1) (StandsBehind [] behind))
 gate_ready history behind stands = told_from history (λ now. LeavesOnly now (StandsBehind [] behind)) (IsReady (write_change 0 1) (StandsBehind [] behind))
-    (λ now leaves. ready_when (write_change 0 1) (StandsBehind [] behind) (StandsBehind [] behind) now leaves (λ file image s torn. byte_torn [] behind 0 refl file image s torn)) stands
+    (λ now leaves. ready_when (write_change 0 1) (StandsBehind [] behind) (StandsBehind [] behind) now leaves (λ file image s torn.
+    let same : min 0 (length now.bytes) ≡ min 0 (length file) = omega arith in
+    byte_torn [] behind 0 refl file image s (subst (λ k. TornWrite k 1 file image) same torn))) stands
 
 -- where the write failed
 pub shut_failed_stands : (s : Spare) (old new : List Content) (loses : ℕ → Type 0) → MayCount s → OnTold old (λ now. StandsSpare s loses now) → FailsInPart (write_change 0 1) old new → OnTold new (λ now. StandsSpare s loses now)

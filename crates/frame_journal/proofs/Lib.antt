@@ -7,11 +7,15 @@ pub mod Gates
 pub mod Leaving
 pub mod Olders
 pub mod Openings
+pub mod PairStepping
+pub mod Pairing
 pub mod Reopening
 pub mod Repairing
 pub mod Running
 pub mod Settled
 pub mod Shutting
+pub mod Silent
 pub mod Spelling
 pub mod Stepping
+pub mod Tellings
 pub mod Told

@@ -1,5 +1,5 @@
 -- How a journal on two disks stands with the disk that it doesn't go on with, its spare one.
-use Rattle.std.specs.Prelude.{◌≡◌, ◌⊎◌, ℕ, ◌+◌, ◌<◌, ◌≤◌, Bool, true, false, ◌||◌, cond, List, [], ◌∷◌, ◌++◌, length, drop, Result, Ok, Err, Option, Some, None, Vec}
+use Rattle.std.specs.Prelude.{◌≡◌, ◌⊎◌, ℕ, ◌+◌, ◌<◌, ◌≤◌, Bool, true, false, ◌||◌, cond, is_some, List, [], ◌∷◌, ◌++◌, length, drop, Result, Ok, Err, Option, Some, None, Vec}
 use Rattle.std.specs.declared.alloc.Global.{Global}
 use Rattle.disk_model.specs.Content.{Content, LeavesOnly}
 use Rattle.disk_model.specs.Disk.{OnTold}
@@ -30,10 +30,7 @@ refused_frames (spare.Shut payloads) = Some (payloads_of payloads.items)
 refused_frames (spare.Staged payloads) = Some (payloads_of payloads.items)
 
 abbrev pub is_refused : Spare → Bool
-is_refused spare.Idle = false
-is_refused (spare.Untouched payloads) = true
-is_refused (spare.Shut payloads) = true
-is_refused (spare.Staged payloads) = true
+is_refused standing = is_some (refused_frames standing)
 
 -- a device fault came in a checkpoint of these frames
 abbrev pub refused_at_step : CheckpointFault → Vec (Vec ℕ Global) Global → Spare
@@ -84,36 +81,35 @@ abbrev pub KeepsGeneration : Option (List (List ℕ)) → ℕ → Type 0
 KeepsGeneration None generation = Unit {0}
 KeepsGeneration (Some other) generation = generation_of other ≡ generation
 
--- How the two disks stand with the journal, where both tell what they hold.
-pub record BothStand {D : Type 0} (journal : JournalState D) (on_second : Bool) (standing : Spare) (now spare_now : Content) : Type 0 where
-  pub leaves : LeavesJournal journal now
-  pub spare : StandsSpare standing (LosesTo on_second (generation_of journal.payloads)) spare_now
-  -- a disk with no frames loses
-  pub least : LosesTo on_second (generation_of journal.payloads) 0
-  pub raised : IsRaised (refused_frames standing) (generation_of journal.payloads + 1)
-  pub kept : KeepsGeneration journal.pending (generation_of journal.payloads)
-
 -- a checkpoint that was refused is all that is pending
-abbrev pub StandsAlone : Spare → Option (List (List ℕ)) → Type 0
-StandsAlone spare.Idle pending = Unit {0}
-StandsAlone (spare.Untouched payloads) pending = pending ≡ None
-StandsAlone (spare.Shut payloads) pending = pending ≡ None
-StandsAlone (spare.Staged payloads) pending = pending ≡ None
+abbrev pub StandsAlone : Option (List (List ℕ)) → Option (List (List ℕ)) → Type 0
+StandsAlone None pending = Unit {0}
+StandsAlone (Some other) pending = pending ≡ None
+
+-- How the spare disk stands with a journal of these payloads, of which these are pending on the disk gone on with.
+pub record SpareStand (payloads : List (List ℕ)) (pending : Option (List (List ℕ))) (on_second : Bool) (standing : Spare) (now : Content) : Type 0 where
+  pub spare : StandsSpare standing (LosesTo on_second (generation_of payloads)) now
+  -- a disk with no frames loses
+  pub least : LosesTo on_second (generation_of payloads) 0
+  pub raised : IsRaised (refused_frames standing) (generation_of payloads + 1)
+  pub kept : KeepsGeneration pending (generation_of payloads)
 
 pub record IsPairSound {D : Type 0} (history : D → List Content) (journal : JournalState D) (spare : D) (on_second : Bool) (standing : Spare) : Type 0 where
-  pub alone : StandsAlone standing journal.pending
-  pub stand : OnTold (history journal.disk) (λ now. OnTold (history spare) (λ spare_now. BothStand journal on_second standing now spare_now))
+  pub alone : StandsAlone (refused_frames standing) journal.pending
+  -- what a crash may leave of the disk gone on with
+  pub leaves : OnTold (history journal.disk) (LeavesJournal journal)
+  -- and how the spare one stands, where both tell what they hold
+  pub stand : OnTold (history journal.disk) (λ _. OnTold (history spare) (SpareStand journal.payloads journal.pending on_second standing))
 
--- what is pending of the two, without a generation
+-- what is pending, without a generation
 abbrev pub pending_without : Option (List (List ℕ)) → Option (List (List ℕ))
 pending_without None = None
 pending_without (Some other) = Some (without_generation other)
 
-abbrev pub pair_pending : Spare → Option (List (List ℕ)) → Option (List (List ℕ))
-pair_pending spare.Idle pending = pending_without pending
-pair_pending (spare.Untouched payloads) pending = Some (without_generation (payloads_of payloads.items))
-pair_pending (spare.Shut payloads) pending = Some (without_generation (payloads_of payloads.items))
-pair_pending (spare.Staged payloads) pending = Some (without_generation (payloads_of payloads.items))
+-- the same of both disks: the frames of a refused checkpoint, or what is pending on the disk gone on with
+abbrev pub pending_with : Option (List (List ℕ)) → Option (List (List ℕ)) → Option (List (List ℕ))
+pending_with None pending = pending_without pending
+pending_with (Some other) pending = Some (without_generation other)
 
 -- the journal on two disks, from the one that goes on, the spare disk and how that stands
 abbrev pub pair_of : {D : Type 0} → JournalState D → D → Bool → Spare → PairState D
@@ -124,5 +120,5 @@ pair_of journal spare on_second standing = record {
   generation = generation_of journal.payloads;
   payloads = without_generation journal.payloads;
   closed = is_refused standing || journal.closed;
-  pending = pair_pending standing journal.pending;
+  pending = pending_with (refused_frames standing) journal.pending;
 }

@@ -1,10 +1,16 @@
 -- What the two device calls of a step do to a disk's contents.
 use Rattle.std.specs.Prelude.{◌≡◌, ℕ, ◌+◌, List, [], ◌∷◌, ◌++◌, length, take, Result, Ok, Err}
 use Rattle.disk_model.specs.Content.{Content, LeavesOnly, written_over, settled, changed, write_change, cut_change}
+use Rattle.disk_model.specs.Moments.{GoesOn}
 use Rattle.frame_journal.specs.Layout.{OpensWith, IsStaged}
 use Rattle.frame_journal.specs.Resting.{IsResting}
 use Rattle.frame_journal.specs.declared.commit.CommitFault.{CommitFault}
 use Rattle.frame_journal.specs.declared.commit.CommitFault.TheVariants.{AtBlock, AtGate}
+
+-- a disk has what it had before and maybe more, and tells as before
+pub record TellsOn (old new : List Content) : Type 0 where
+  pub goes_on : GoesOn old new
+  pub silent : old ≡ [] → new ≡ []
 
 -- a write, and a sync behind it
 abbrev pub WritesSynced : ℕ → List ℕ → List Content → List Content → Type 0

@@ -3,6 +3,7 @@ ghost use Rattle.std.specs.Prelude.{◌≡◌, ◌⊎◌, ℕ, ◌+◌, ◌-◌,
 ghost use Rattle.std.specs.Prelude.{Bool, ◌∷◌};
 ghost use Rattle.frame_journal.specs.PairState.{LosesTo};
 ghost use Rattle.fault_count.specs.Rose.{Rose};
+ghost use Rattle.frame_journal.specs.Steps.{TellsOn};
 ghost use Rattle.disk_model.specs.Disk.{OnTold, calls_after};
 ghost use Rattle.disk_model.specs.Content.{LeavesOnly, settled};
 ghost use Rattle.disk_model.specs.Moments.{LeavesAfter, LeavesSince};
@@ -41,6 +42,7 @@ pub fn write_checkpoint<D: Disk>(disk: &mut D, behind: &[u8]) -> Result<(), Chec
     ensures calls { OnOk result (D.calls disk.new ≡ calls_after (D.calls disk.old) 7) }
     ensures counts { D.faults disk.old ≤ D.faults disk.new }
     ensures quiet { OnOk result (D.faults disk.new ≡ D.faults disk.old) }
+    ensures tells { TellsOn (D.history disk.old) (D.history disk.new) }
     ensures failed { OnErr result (Rose (D.faults disk.old) (D.faults disk.new)) }
 {
     if write_synced(disk, 0, &[SHUT]).is_err() {
@@ -66,6 +68,7 @@ fn replace_behind<D: Disk>(disk: &mut D, behind: &[u8]) -> Result<(), Failed>
     ensures calls { OnOk result (D.calls disk.new ≡ calls_after (D.calls disk.old) 3) }
     ensures counts { D.faults disk.old ≤ D.faults disk.new }
     ensures quiet { OnOk result (D.faults disk.new ≡ D.faults disk.old) }
+    ensures tells { TellsOn (D.history disk.old) (D.history disk.new) }
     ensures failed { OnErr result (Rose (D.faults disk.old) (D.faults disk.new)) }
 {
     disk.cut(1)?;

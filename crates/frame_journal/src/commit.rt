@@ -1,6 +1,7 @@
 //! A frame goes to the disk.
 ghost use Rattle.std.specs.Prelude.{◌≡◌, ℕ, ◌+◌, ◌^◌, ◌<◌, ◌≤◌, ◌++◌, [], ◌∷◌, List, length, IfOk, IfErr, OnOk, OnErr};
 ghost use Rattle.fault_count.specs.Rose.{Rose};
+ghost use Rattle.frame_journal.specs.Steps.{TellsOn};
 ghost use Rattle.disk_model.specs.Disk.{OnTold, calls_after};
 ghost use Rattle.disk_model.specs.Moments.{LeavesSince};
 ghost use Rattle.frame_journal.specs.Layout.{block, IsPayload, OpensWithOneMore};
@@ -75,7 +76,7 @@ pub fn commit<D: Disk>(disk: &mut D, gate: u64, bytes: &[u8]) -> Result<(), Comm
     ensures calls { OnOk result (D.calls disk.new ≡ calls_after (D.calls disk.old) 4) }
     ensures counts { D.faults disk.old ≤ D.faults disk.new }
     ensures quiet { OnOk result (D.faults disk.new ≡ D.faults disk.old) }
-    ensures silent { D.history disk.old ≡ [] → D.history disk.new ≡ [] }
+    ensures tells { TellsOn (D.history disk.old) (D.history disk.new) }
     ensures failed { OnErr result (Rose (D.faults disk.old) (D.faults disk.new)) }
 {
     if write_synced(disk, gate + 1, bytes).is_err() {

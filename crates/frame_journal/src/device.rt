@@ -1,6 +1,7 @@
 //! A change of the disk, and a sync behind it.
 ghost use Rattle.std.specs.Prelude.{◌≡◌, ℕ, ◌+◌, ◌^◌, ◌<◌, ◌≤◌, length, OnOk, OnErr, []};
 ghost use Rattle.fault_count.specs.Rose.{Rose};
+ghost use Rattle.frame_journal.specs.Steps.{TellsOn};
 ghost use Rattle.disk_model.specs.Content.{write_change, cut_change};
 ghost use Rattle.disk_model.specs.Disk.{FailsInPart, calls_after};
 ghost use Rattle.frame_journal.specs.Steps.{WritesSynced, CutsSynced};
@@ -15,7 +16,7 @@ pub fn write_synced<D: Disk>(disk: &mut D, place: u64, bytes: &[u8]) -> Result<(
     ensures calls { OnOk result (D.calls disk.new ≡ calls_after (D.calls disk.old) 2) }
     ensures counts { D.faults disk.old ≤ D.faults disk.new }
     ensures quiet { OnOk result (D.faults disk.new ≡ D.faults disk.old) }
-    ensures silent { D.history disk.old ≡ [] → D.history disk.new ≡ [] }
+    ensures tells { TellsOn (D.history disk.old) (D.history disk.new) }
     ensures failed { OnErr result (Rose (D.faults disk.old) (D.faults disk.new)) }
 {
     disk.write_at(place, bytes)?;
@@ -29,7 +30,7 @@ pub fn cut_synced<D: Disk>(disk: &mut D, length: u64) -> Result<(), Failed>
     ensures calls { OnOk result (D.calls disk.new ≡ calls_after (D.calls disk.old) 2) }
     ensures counts { D.faults disk.old ≤ D.faults disk.new }
     ensures quiet { OnOk result (D.faults disk.new ≡ D.faults disk.old) }
-    ensures silent { D.history disk.old ≡ [] → D.history disk.new ≡ [] }
+    ensures tells { TellsOn (D.history disk.old) (D.history disk.new) }
     ensures failed { OnErr result (Rose (D.faults disk.old) (D.faults disk.new)) }
 {
     disk.cut(length)?;

@@ -174,10 +174,8 @@ impl<D: Disk> Journal<D> {
     pub(crate) fn move_to(&mut self, disk: &mut D, payloads: Vec<Vec<u8>>, gate: u64)
         requires within { gate + 1 < 2 ^ 63 }
         requires rests { OnTold (D.history disk.old) (λ now. IsResting (payloads_of payloads.items) gate now) }
-        ensures here { self.new.disk ≡ disk.old }
+        ensures here { self.new ≡ record { disk = disk.old; payloads = payloads_of payloads.items; closed = false; pending = None } }
         ensures there { disk.new ≡ self.old.disk }
-        ensures payloads { self.new.payloads ≡ payloads_of payloads.items }
-        ensures open { (self.new.closed ≡ false) × (self.new.pending ≡ None) }
     {
         mem::swap(&mut self.disk, disk);
         self.payloads = payloads;
@@ -192,9 +190,12 @@ impl<D: Disk> Journal<D> {
         &self.payloads
     }
 
-    /// Whether a device fault came since the journal was opened last.
+    /// Whether a device fault came since the journal was opened last. If none came, nothing is pending
+    /// and the disk is cut behind the frames.
     pub fn is_closed(&self) -> bool
-        ensures { result ≡ self.now.closed }
+        ensures is { result ≡ self.now.closed }
+        ensures alone { result ≡ false → self.now.pending ≡ None }
+        ensures rests { result ≡ false → OnTold (D.history self.now.disk) (Rests self.now.payloads) }
     {
         self.standing.is_closed()
     }

@@ -1,6 +1,7 @@
 //! A disk is made ready for appends.
 ghost use Rattle.std.specs.Prelude.{◌≡◌, ◌≢◌, ℕ, ◌+◌, ◌^◌, ◌<◌, ◌≤◌, List, IfOk, IfErr, IsErrOf, OnOk, []};
 ghost use Rattle.fault_count.specs.Rose.{Rose};
+ghost use Rattle.frame_journal.specs.Steps.{TellsOn};
 ghost use Rattle.disk_model.specs.Disk.{OnTold, Syncs};
 ghost use Rattle.disk_model.specs.Moments.{LeavesAfter};
 ghost use Rattle.frame_journal.specs.Layout.{OpensWith, IsBadFrame};
@@ -27,7 +28,7 @@ pub fn settle<D: Disk>(alloc: Global, disk: &mut D) -> Result<Frames, OpenError>
     ensures synced { IfErr result (λ e. e ≢ OpenError.DiskFault → Syncs (D.history disk.old) (D.history disk.new)) }
     ensures counts { D.faults disk.old ≤ D.faults disk.new }
     ensures quiet { OnOk result (D.faults disk.new ≡ D.faults disk.old) }
-    ensures silent { D.history disk.old ≡ [] → D.history disk.new ≡ [] }
+    ensures tells { TellsOn (D.history disk.old) (D.history disk.new) }
     ensures failed { IsErrOf result OpenError.DiskFault → Rose (D.faults disk.old) (D.faults disk.new) }
 {
     disk.sync()?;

@@ -3,9 +3,10 @@ ghost use Rattle.std.specs.Prelude.{◌≡◌, ◌↔◌, ℕ, ◌≤◌, List, 
 ghost use Rattle.std.specs.Prelude.{Bool};
 ghost use Rattle.frame_journal.specs.PairState.{LosesTo};
 ghost use Rattle.fault_count.specs.Rose.{Rose};
+ghost use Rattle.frame_journal.specs.Steps.{TellsOn};
 ghost use Rattle.disk_model.specs.Disk.{OnTold};
 ghost use Rattle.disk_model.specs.Moments.{LeavesAfter};
-ghost use Rattle.std.specs.Prelude.{true, ◌+◌};
+ghost use Rattle.std.specs.Prelude.{true, ◌+◌, []};
 ghost use Rattle.frame_journal.specs.Older.{OpensLesser};
 ghost use Rattle.frame_journal.specs.SpareState.{is_refused, StandsSpare, MayCount, IsUncut, MayOpenSpare, IsRaised, refused_frames, after_shutting_spare, after_cutting_spare};
 
@@ -110,6 +111,7 @@ pub fn clear_spare<D: Disk>(disk: &mut D, spare: &mut Spare) -> Result<(), Faile
         → LeavesAfter (D.history disk.old) (D.history disk.new) (MayOpenSpare (refused_frames spare.old) (LosesTo on_second generation)) }
     ensures counts { D.faults disk.old ≤ D.faults disk.new }
     ensures quiet { OnOk result (D.faults disk.new ≡ D.faults disk.old) }
+    ensures tells { TellsOn (D.history disk.old) (D.history disk.new) }
     ensures failed { OnErr result (Rose (D.faults disk.old) (D.faults disk.new)) }
 {
     shut_spare(disk, spare)?;
@@ -128,6 +130,7 @@ fn shut_spare<D: Disk>(disk: &mut D, spare: &mut Spare) -> Result<(), Failed>
         → LeavesAfter (D.history disk.old) (D.history disk.new) (MayOpenSpare (refused_frames spare.old) (LosesTo on_second generation)) }
     ensures counts { D.faults disk.old ≤ D.faults disk.new }
     ensures quiet { OnOk result (D.faults disk.new ≡ D.faults disk.old) }
+    ensures tells { TellsOn (D.history disk.old) (D.history disk.new) }
     ensures failed { OnErr result (Rose (D.faults disk.old) (D.faults disk.new)) }
 {
     if !spare.may_count() {
@@ -150,6 +153,7 @@ fn cut_spare<D: Disk>(disk: &mut D, spare: &mut Spare) -> Result<(), Failed>
         → LeavesAfter (D.history disk.old) (D.history disk.new) (OpensLesser (LosesTo on_second generation)) }
     ensures counts { D.faults disk.old ≤ D.faults disk.new }
     ensures quiet { OnOk result (D.faults disk.new ≡ D.faults disk.old) }
+    ensures tells { TellsOn (D.history disk.old) (D.history disk.new) }
     ensures failed { OnErr result (Rose (D.faults disk.old) (D.faults disk.new)) }
 {
     if !spare.is_uncut() {

@@ -1,6 +1,7 @@
 //! How a journal stands with its disk.
 ghost use Rattle.std.specs.Prelude.{◌≡◌, ◌≢◌, ◌↔◌, ℕ, ◌+◌, ◌^◌, ◌<◌, ◌≤◌, List, [], IsTrue, IfOk, IfErr, OnOk, OnErr, IsErrOf, true};
 ghost use Rattle.fault_count.specs.Rose.{Rose};
+ghost use Rattle.frame_journal.specs.Steps.{TellsOn};
 ghost use Rattle.disk_model.specs.Disk.{OnTold};
 ghost use Rattle.disk_model.specs.Moments.{LeavesAfter, LeavesSince};
 ghost use Rattle.frame_journal.specs.JournalState.{MayOpenWith};
@@ -113,7 +114,7 @@ pub fn ready_again<D: Disk>(
         → LeavesSince (D.history disk.old) (D.history disk.new) (MayOpenWith payloads (pending_of standing.old payloads)) }
     ensures counts { D.faults disk.old ≤ D.faults disk.new }
     ensures quiet { OnOk result (D.faults disk.new ≡ D.faults disk.old) }
-    ensures silent { D.history disk.old ≡ [] → D.history disk.new ≡ [] }
+    ensures tells { TellsOn (D.history disk.old) (D.history disk.new) }
     ensures failed { IsErrOf result OpenError.DiskFault → Rose (D.faults disk.old) (D.faults disk.new) }
 {
     if shut_refused(disk, gate, standing).is_err() {
@@ -142,7 +143,7 @@ fn shut_refused<D: Disk>(disk: &mut D, gate: u64, standing: &mut Standing) -> Re
         → LeavesAfter (D.history disk.old) (D.history disk.new) (MayOpenWith payloads (pending_of standing.old payloads)) }
     ensures counts { D.faults disk.old ≤ D.faults disk.new }
     ensures quiet { OnOk result (D.faults disk.new ≡ D.faults disk.old) }
-    ensures silent { D.history disk.old ≡ [] → D.history disk.new ≡ [] }
+    ensures tells { TellsOn (D.history disk.old) (D.history disk.new) }
     ensures failed { OnErr result (Rose (D.faults disk.old) (D.faults disk.new)) }
 {
     if !standing.is_staged() {

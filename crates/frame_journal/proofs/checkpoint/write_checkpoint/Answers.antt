@@ -5,6 +5,7 @@ use Rattle.frame_journal.specs.PairState.{LosesTo}
 use Rattle.frame_journal.specs.Older.{StandsBehind, behind_first}
 use Rattle.frame_journal.proofs.Reopening.{when_ok, when_err}
 use Rattle.frame_journal.proofs.Checkpointing.{shutting_failed, shutting_failed_moments, now_shut, leaves_shut, body_failed, body_failed_moments, opening_failed, opening_failed_moments, opened_rests, opened_moments}
+use Rattle.frame_journal.proofs.Silent.{tells_then}
 use Rattle.frame_journal.proofs.checkpoint.write_checkpoint.Goals as goal
 
 pub returns-then-is_err-clause-leaves : goal.returns-then-is_err-clause-leaves
@@ -80,3 +81,18 @@ returns-clause-moments g c = λ b n p ps fit is least older.
     let body = subst (λ (l : List ℕ). OnTold next (λ now. (now ≡ settled now.bytes) × StandsBehind [] l now.bytes)) is stands in
     let opens = when_ok c.write_synced-2.result _ (sym c.is_err-3.ensures.value ∙ c.if-is_err-3.false) c.write_synced-2.ensures.made in
     opened_moments (LosesTo b n) least p ps fit old older mid shuts next (c.replace_behind.ensures.moments shut) body _ opens
+
+pub returns-then-is_err-2-clause-tells : goal.returns-then-is_err-2-clause-tells
+returns-then-is_err-2-clause-tells g c = tells_then (g.D.Disk.history c.args.disk.now) (g.D.Disk.history c.write_synced.new.disk) (g.D.Disk.history c.replace_behind.new.disk) c.write_synced.ensures.tells c.replace_behind.ensures.tells
+
+pub returns-then-is_err-3-clause-tells : goal.returns-then-is_err-3-clause-tells
+returns-then-is_err-3-clause-tells g c =
+    tells_then (g.D.Disk.history c.args.disk.now) (g.D.Disk.history c.replace_behind.new.disk) (g.D.Disk.history c.write_synced-2.new.disk)
+    (tells_then (g.D.Disk.history c.args.disk.now) (g.D.Disk.history c.write_synced.new.disk) (g.D.Disk.history c.replace_behind.new.disk) c.write_synced.ensures.tells c.replace_behind.ensures.tells)
+    c.write_synced-2.ensures.tells
+
+pub returns-clause-tells : goal.returns-clause-tells
+returns-clause-tells g c =
+    tells_then (g.D.Disk.history c.args.disk.now) (g.D.Disk.history c.replace_behind.new.disk) (g.D.Disk.history c.write_synced-2.new.disk)
+    (tells_then (g.D.Disk.history c.args.disk.now) (g.D.Disk.history c.write_synced.new.disk) (g.D.Disk.history c.replace_behind.new.disk) c.write_synced.ensures.tells c.replace_behind.ensures.tells)
+    c.write_synced-2.ensures.tells

@@ -4,6 +4,7 @@ use Rattle.disk_model.specs.Disk.{FailsInPart}
 use Rattle.frame_journal.specs.Steps.{WritesSynced}
 use Rattle.frame_journal.proofs.Reopening.{when_ok, when_err}
 use Rattle.frame_journal.proofs.Appending.{block_failed, block_failed_moments, gate_failed, gate_failed_moments, made_rests, made_moments}
+use Rattle.frame_journal.proofs.Silent.{tells_then}
 use Rattle.frame_journal.proofs.commit.commit.Goals as goal
 
 pub returns-then-is_err-clause-leaves : goal.returns-then-is_err-clause-leaves
@@ -51,3 +52,9 @@ returns-clause-moments g c = λ ps q fits is rests.
     let made = when_ok c.write_synced.result _ (sym c.is_err.ensures.value ∙ c.if-is_err.false) c.write_synced.ensures.made in
     let opened = when_ok c.write_synced-2.result _ (sym c.is_err-2.ensures.value ∙ c.if-is_err-2.false) c.write_synced-2.ensures.made in
     made_moments ps c.args.gate q fits old rests mid (subst (λ (b : List ℕ). WritesSynced (c.args.gate + 1) b old mid) is made) _ opened
+
+pub returns-then-is_err-2-clause-tells : goal.returns-then-is_err-2-clause-tells
+returns-then-is_err-2-clause-tells g c = tells_then (g.D.Disk.history c.args.disk.now) (g.D.Disk.history c.write_synced.new.disk) (g.D.Disk.history c.write_synced-2.new.disk) c.write_synced.ensures.tells c.write_synced-2.ensures.tells
+
+pub returns-clause-tells : goal.returns-clause-tells
+returns-clause-tells g c = tells_then (g.D.Disk.history c.args.disk.now) (g.D.Disk.history c.write_synced.new.disk) (g.D.Disk.history c.write_synced-2.new.disk) c.write_synced.ensures.tells c.write_synced-2.ensures.tells
