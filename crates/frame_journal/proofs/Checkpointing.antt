@@ -45,6 +45,20 @@ module _ (old : List Content) (shut : OnTold old (λ now. LeavesOnly now BeginsS
         (λ writes. then_writes old mid new 1 bytes BeginsShut cut_made (write_ready (length bytes)) writes)
         (λ fails. then_fails old mid new (write_change 1 (length bytes)) BeginsShut cut_made (write_ready (length bytes)) fails)
 
+-- a first gate is shut, whatever the disk held
+pub shut_now : (old mid : List Content) → WritesSynced 0 (0 ∷ []) old mid → OnTold mid (λ now. (now ≡ settled now.bytes) × BeginsShut now.bytes)
+shut_now old mid shuts = now_written old mid 0 (0 ∷ []) BeginsShut shuts (told old (λ now. BeginsShut (written_over now.bytes 0 (0 ∷ []))) (λ now. first_shut now.bytes))
+
+-- the first gate before these frames is opened
+pub rests_now : (p : List ℕ) (ps : List (List ℕ)) (next new : List Content) → ArePayloads (p ∷ ps) → OnTold next (λ now. (now ≡ settled now.bytes) × StandsBehind [] (behind_first (p ∷ ps)) now.bytes) → WritesSynced 0 (1 ∷ []) next new
+    → OnTold new (λ now. IsResting (p ∷ ps) (length (frames (p ∷ ps))) now)
+rests_now p ps next new fit stands opens =
+    told_from new (λ now. (now ≡ settled now.bytes) × IsAtRest (p ∷ ps) (length (frames (p ∷ ps))) now.bytes) (λ now. IsResting (p ∷ ps) (length (frames (p ∷ ps))) now)
+    (λ now both. record { synced = both.0; rests = both.1 })
+    (now_written next new 0 (1 ∷ []) (IsAtRest (p ∷ ps) (length (frames (p ∷ ps)))) opens
+    (told_from next (λ now. (now ≡ settled now.bytes) × StandsBehind [] (behind_first (p ∷ ps)) now.bytes) (λ now. IsAtRest (p ∷ ps) (length (frames (p ∷ ps))) (written_over now.bytes 0 (1 ∷ [])))
+    (λ now both. checkpoint_rests p ps fit now.bytes both.1) stands))
+
 -- a checkpoint of these frames over older ones
 module _ (loses : ℕ → Type 0) (least : loses 0) (p : List ℕ) (ps : List (List ℕ)) (fit : ArePayloads (p ∷ ps)) (old : List Content) (before : OnTold old (λ now. LeavesOnly now (IsOlder loses))) where
   abbrev P : List ℕ → Type 0
@@ -72,7 +86,7 @@ module _ (loses : ℕ → Type 0) (least : loses 0) (p : List ℕ) (ps : List (L
 
   module _ (mid : List Content) (shuts : WritesSynced 0 (0 ∷ []) old mid) where
     pub now_shut : OnTold mid (λ now. (now ≡ settled now.bytes) × BeginsShut now.bytes)
-    now_shut = now_written old mid 0 (0 ∷ []) BeginsShut shuts (told old (λ now. BeginsShut (written_over now.bytes 0 (0 ∷ []))) (λ now. first_shut now.bytes))
+    now_shut = shut_now old mid shuts
 
     pub leaves_shut : OnTold mid (λ now. LeavesOnly now BeginsShut)
     leaves_shut = told_from mid (λ now. (now ≡ settled now.bytes) × BeginsShut now.bytes) (λ now. LeavesOnly now BeginsShut) (λ now both. synced_leaves now BeginsShut both.0 both.1) now_shut
@@ -109,12 +123,7 @@ module _ (loses : ℕ → Type 0) (least : loses 0) (p : List ℕ) (ps : List (L
         opening_failed_moments new fails = since_from old new P at_first (then_fails old next new (write_change 0 1) P body_so_far open_moments fails)
 
         pub opened_rests : (new : List Content) → WritesSynced 0 (1 ∷ []) next new → OnTold new (λ now. IsResting (p ∷ ps) (length (frames (p ∷ ps))) now)
-        opened_rests new opens =
-            told_from new (λ now. (now ≡ settled now.bytes) × IsAtRest (p ∷ ps) (length (frames (p ∷ ps))) now.bytes) (λ now. IsResting (p ∷ ps) (length (frames (p ∷ ps))) now)
-            (λ now both. record { synced = both.0; rests = both.1 })
-            (now_written next new 0 (1 ∷ []) (IsAtRest (p ∷ ps) (length (frames (p ∷ ps)))) opens
-            (told_from next (λ now. (now ≡ settled now.bytes) × Body now.bytes) (λ now. IsAtRest (p ∷ ps) (length (frames (p ∷ ps))) (written_over now.bytes 0 (1 ∷ [])))
-            (λ now both. checkpoint_rests p ps fit now.bytes both.1) stands))
+        opened_rests new opens = rests_now p ps next new fit stands opens
 
         pub opened_moments : (new : List Content) → WritesSynced 0 (1 ∷ []) next new → LeavesSince old new P
         opened_moments new opens = since_from old new P at_first (then_writes old next new 0 (1 ∷ []) P body_so_far open_moments opens)

@@ -1,4 +1,5 @@
 pub mod Appending
+pub mod Checkpointed
 pub mod Checkpointing
 pub mod Clearing
 pub mod Committing

@@ -75,6 +75,21 @@ module _ {D : Type 0} (history : D → List Content) (journal new : JournalState
         (λ least here. subst (λ n. OnTold (history spare') (λ now. StandsSpare s' (LosesTo b n) now)) same (stands least here))
 
   -- what it may leave at each moment
+  abbrev Course : Type 0
+  Course = (i j : List ℕ) → LeftSince (history journal.disk) (history new.disk) i → LeftSince (history spare) (history spare') j
+      → MayOpenPairWith (without_generation journal.payloads) (pending_with (refused_frames s) (in_course (kept_of journal) call)) (cond b j i) (cond b i j)
+
+  abbrev Later : Type 0
+  Later = loses 0 → IsRaised (refused_frames s) (generation_of journal.payloads + 1) → OnTold (history spare) (λ now. StandsSpare s loses now) → LeavesAfter (history spare) (history spare') (MayOpenSpare (refused_frames s) loses)
+
+  at : StandsAlone (refused_frames s) (in_course (kept_of journal) call) → Later → OnTold (history spare) (SpareStand journal.payloads journal.pending b s) → OnTold (history spare) (λ _. Course)
+  at alone later stand = told_from (history spare) (SpareStand journal.payloads journal.pending b s) (λ _. Course)
+      (λ now st i j left left'.
+      opens_pair b (refused_frames s) (in_course (kept_of journal) call) journal.payloads i j alone st.raised (keeps_course (kept_of journal) call fits st.kept)
+      (step.moments.leaves i left)
+      ((since_from (history spare) (history spare') (MayOpenSpare (refused_frames s) loses) (stand_leaves (history spare) journal.payloads journal.pending b s stand)
+      (later st.least st.raised (told_from (history spare) (SpareStand journal.payloads journal.pending b s) (λ n. StandsSpare s loses n) (λ n t. t.spare) stand))).leaves j left')) stand
+
   pub called_moments : StandsAlone (refused_frames s) (in_course (kept_of journal) call)
       → (loses 0 → IsRaised (refused_frames s) (generation_of journal.payloads + 1) → OnTold (history spare) (λ now. StandsSpare s loses now) → LeavesAfter (history spare) (history spare') (MayOpenSpare (refused_frames s) loses))
       → LeavesBothSince (history (cond b spare journal.disk)) (history (cond b spare' new.disk)) (history (cond b journal.disk spare)) (history (cond b new.disk spare'))
@@ -82,19 +97,7 @@ module _ {D : Type 0} (history : D → List Content) (journal new : JournalState
   called_moments alone later =
       pair_moments history b journal.disk new.disk spare spare' (MayOpenPairWith (without_generation journal.payloads) (pending_with (refused_frames s) (in_course (kept_of journal) call)))
       step.moments.goes_on tells.goes_on silent tells.silent
-      (told_from (history journal.disk) (λ _. OnTold (history spare) (SpareStand journal.payloads journal.pending b s)) (λ _. OnTold (history spare) (λ _. Both)) (λ _ stand. at stand) sound.stand) where
-    Both : Type 0
-    Both = (i j : List ℕ) → LeftSince (history journal.disk) (history new.disk) i → LeftSince (history spare) (history spare') j
-        → MayOpenPairWith (without_generation journal.payloads) (pending_with (refused_frames s) (in_course (kept_of journal) call)) (cond b j i) (cond b i j)
-
-    at : OnTold (history spare) (SpareStand journal.payloads journal.pending b s) → OnTold (history spare) (λ _. Both)
-    unfolding Both
-    at stand = told_from (history spare) (SpareStand journal.payloads journal.pending b s) (λ _. Both)
-        (λ now st i j left left'.
-        opens_pair b (refused_frames s) (in_course (kept_of journal) call) journal.payloads i j alone st.raised (keeps_course (kept_of journal) call fits st.kept)
-        (step.moments.leaves i left)
-        ((since_from (history spare) (history spare') (MayOpenSpare (refused_frames s) loses) (stand_leaves (history spare) journal.payloads journal.pending b s stand)
-        (later st.least st.raised (told_from (history spare) (SpareStand journal.payloads journal.pending b s) (λ n. StandsSpare s loses n) (λ n t. t.spare) stand))).leaves j left')) stand
+      (told_from (history journal.disk) (λ _. OnTold (history spare) (SpareStand journal.payloads journal.pending b s)) (λ _. OnTold (history spare) (λ _. Course)) (λ _ stand. at alone later stand) sound.stand)
 
 -- a payload that is appended
 pub fits_append : (ps : List (List ℕ)) (q : List ℕ) (r : Result (Unit {0}) AppendError) → (without_generation ps ≡ [] → generation_of ps ≡ 0 → is_generation q ≡ false) → Fits ps (append_call q r)
@@ -160,11 +163,10 @@ module _ {D : Type 0} (history : D → List Content) (journal new : JournalState
       (subst (λ (o : Option (List (List ℕ))). StandsAlone o new.pending) (sym same) (subst (λ (o : Option (List (List ℕ))). StandsAlone (refused_frames s) o) (sym pending) sound.alone))
       (λ raised. subst (λ (o : Option (List (List ℕ))). IsRaised o (generation_of journal.payloads + 1)) (sym same) raised) stands
 
-  Kept_same : Type 0
+  abbrev Kept_same : Type 0
   Kept_same = kept_of_pair (pair_of new spare' b s') ≡ kept_of_pair (pair_of journal spare b s)
 
   pub reopen_failed_step : IsPairStep history (pair_of journal spare b s) (Called ReopenFailed) (pair_of new spare' b s')
-  unfolding Kept_same
   reopen_failed_step = record {
     kept = told_pair history b journal.disk spare Kept_same
         (told_from (history journal.disk) (λ _. kept_of new ≡ kept_of journal) (λ _. OnTold (history spare) (λ _. Kept_same))
@@ -190,11 +192,10 @@ module _ {D : Type 0} (history : D → List Content) (journal new : JournalState
   reopened_sound = called_sound history journal new spare spare' b s standing.Idle Reopened sound step silent tells tt tt (λ raised. tt)
       (λ least here. older (LosesTo b (generation_of journal.payloads)) s' uncounted cut (stands least here))
 
-  Kept_now : Type 0
+  abbrev Kept_now : Type 0
   Kept_now = kept_of_pair (pair_of new spare' b standing.Idle) ≡ kept_after (kept_of_pair (pair_of journal spare b s)) Reopened
 
   pub reopened_step : IsPairStep history (pair_of journal spare b s) (Called Reopened) (pair_of new spare' b standing.Idle)
-  unfolding Kept_now
   reopened_step = record {
     kept = told_pair history b journal.disk spare Kept_now
         (told_from (history journal.disk) (λ _. kept_of new ≡ kept_after (kept_of journal) Reopened) (λ _. OnTold (history spare) (λ _. Kept_now))
@@ -210,3 +211,18 @@ pair_refused history journal spare b s sound =
     let step = reopen_failed_step history journal journal spare spare b s s sound (failed_step history journal sound.leaves) (λ none. none) (tells_same (history spare) (history spare) refl) refl refl (λ least stands. stands)
         (λ least raised stands. same_leaves (history spare) (history spare) (MayOpenSpare (refused_frames s) (LosesTo b (generation_of journal.payloads))) refl) in
     record { kept = step.kept; moments = step.moments; durable = step.durable }
+
+-- the same, of a spare disk that stands without a refused checkpoint
+pub called_step : {D : Type 0} (history : D → List Content) (journal new : JournalState D) (spare : D) (b : Bool) (s : Spare) (call : Call) → is_refused s ≡ false → IsPairSound history journal spare b s → IsStep history journal call new
+    → (history journal.disk ≡ [] → history new.disk ≡ []) → Fits journal.payloads call → IsPairStep history (pair_of journal spare b s) (Called call) (pair_of new spare b s)
+called_step history journal new spare b standing.Idle call idle sound step silent fits = idle_step history journal new spare b call sound step silent fits
+called_step history journal new spare b (standing.Untouched fs) call idle sound step silent fits = absurd cc
+called_step history journal new spare b (standing.Shut fs) call idle sound step silent fits = absurd cc
+called_step history journal new spare b (standing.Staged fs) call idle sound step silent fits = absurd cc
+
+pub called_invariant : {D : Type 0} (history : D → List Content) (journal new : JournalState D) (spare : D) (b : Bool) (s : Spare) (call : Call) → is_refused s ≡ false → IsPairSound history journal spare b s → IsStep history journal call new
+    → (history journal.disk ≡ [] → history new.disk ≡ []) → Fits journal.payloads call → IsPairSound history new spare b s
+called_invariant history journal new spare b standing.Idle call idle sound step silent fits = idle_sound history journal new spare b call sound step silent fits
+called_invariant history journal new spare b (standing.Untouched fs) call idle sound step silent fits = absurd cc
+called_invariant history journal new spare b (standing.Shut fs) call idle sound step silent fits = absurd cc
+called_invariant history journal new spare b (standing.Staged fs) call idle sound step silent fits = absurd cc

@@ -1,5 +1,5 @@
 -- Which of two disks goes on.
-use Rattle.std.proofs.Common.{rules, ◌≡◌, ◌≢◌, inl, inr, ℕ, ◌+◌, ◌^◌, ◌<◌, ◌≤◌, Bool, true, false, cond, nat_lt, bytes_eq, List, [], ◌∷◌, ◌++◌, length, take, drop, replicate, refl, sym, ap, subst, ◌∙◌, arith}
+use Rattle.std.proofs.Common.{lt-ltb, le-ltb, ◌≡◌, ◌≢◌, inl, inr, ℕ, ◌+◌, ◌^◌, ◌<◌, ◌≤◌, Bool, true, false, cond, nat_lt, bytes_eq, List, [], ◌∷◌, ◌++◌, length, take, drop, replicate, refl, sym, ap, subst, ◌∙◌, arith}
 use Rattle.std.specs.Int.{w64, to_be_bytes, from_be_bytes}
 use Rattle.std.proofs.lemmas.Nat.{from_be_bytes-to_be_bytes_8}
 use Rattle.frame_journal.specs.Layout.{OpensWith}
@@ -9,12 +9,12 @@ use Rattle.frame_journal.specs.PairState.{OpensPairWith, chosen, LosesTo}
 
 -- the payload of a generation is one
 pub is_its_generation : (n : ℕ) → is_generation (generation_payload n) ≡ true
-unfolding is_generation, generation_payload
+unfolding is_generation generation_payload
 is_its_generation n = refl
 
 -- of that number
 pub its_number : (n : ℕ) → n < 2 ^ 64 → number_in (generation_payload n) ≡ n
-unfolding number_in, generation_payload
+unfolding number_in generation_payload
 its_number n fits = from_be_bytes-to_be_bytes_8 n fits
 
 -- a checkpoint has its generation
@@ -42,10 +42,10 @@ none_without [] is = (refl, refl)
 none_without (p ∷ ps) is = absurd cc
 
 test_lt : (m n : ℕ) → m < n → nat_lt m n ≡ true
-test_lt m n less = search (rules, less)
+test_lt m n less = lt-ltb m n less
 
 test_ge : (m n : ℕ) → n ≤ m → nat_lt m n ≡ false
-test_ge m n le = search (rules, le)
+test_ge m n le = le-ltb m n le
 
 -- the disk gone on with beside one of a lesser generation
 pub opens_by : (b : Bool) (ps : List (List ℕ)) (image spare_image : List ℕ) → OpensWith ps image → OpensLesser (LosesTo b (generation_of ps)) spare_image

@@ -10,6 +10,7 @@ ghost use Rattle.disk_model.specs.Moments.{LeavesAfter, LeavesSince};
 ghost use Rattle.frame_journal.specs.Layout.{frames, ArePayloads, OpensWith};
 ghost use Rattle.frame_journal.specs.Reading.{BeginsShut};
 ghost use Rattle.frame_journal.specs.Older.{StandsBehind, OpensLesser, IsOlder, behind_first};
+ghost use Rattle.frame_journal.specs.Resting.{Rests};
 ghost use Rattle.frame_journal.specs.SpareSteps.{CheckpointLeaves};
 
 use crate::device::write_synced;
@@ -39,6 +40,8 @@ pub fn write_checkpoint<D: Disk>(disk: &mut D, behind: &[u8]) -> Result<(), Chec
     ensures moments { (on_second : Bool) (generation : ℕ) (payload : List ℕ) (payloads : List (List ℕ)) → ArePayloads (payload ∷ payloads) → behind.now ≡ behind_first (payload ∷ payloads)
         → LosesTo on_second generation 0 → OnTold (D.history disk.old) (λ now. LeavesOnly now (IsOlder (LosesTo on_second generation)))
         → LeavesSince (D.history disk.old) (D.history disk.new) (λ image. OpensLesser (LosesTo on_second generation) image ⊎ OpensWith (payload ∷ payloads) image) }
+    ensures rests { OnOk result ((payload : List ℕ) (payloads : List (List ℕ)) → ArePayloads (payload ∷ payloads) → behind.now ≡ behind_first (payload ∷ payloads)
+        → OnTold (D.history disk.new) (Rests (payload ∷ payloads))) }
     ensures calls { OnOk result (D.calls disk.new ≡ calls_after (D.calls disk.old) 7) }
     ensures counts { D.faults disk.old ≤ D.faults disk.new }
     ensures quiet { OnOk result (D.faults disk.new ≡ D.faults disk.old) }

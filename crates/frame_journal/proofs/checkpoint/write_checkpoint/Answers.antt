@@ -4,7 +4,7 @@ use Rattle.disk_model.specs.Disk.{OnTold}
 use Rattle.frame_journal.specs.PairState.{LosesTo}
 use Rattle.frame_journal.specs.Older.{StandsBehind, behind_first}
 use Rattle.frame_journal.proofs.Reopening.{when_ok, when_err}
-use Rattle.frame_journal.proofs.Checkpointing.{shutting_failed, shutting_failed_moments, now_shut, leaves_shut, body_failed, body_failed_moments, opening_failed, opening_failed_moments, opened_rests, opened_moments}
+use Rattle.frame_journal.proofs.Checkpointing.{shutting_failed, shutting_failed_moments, now_shut, leaves_shut, body_failed, body_failed_moments, opening_failed, opening_failed_moments, opened_rests, opened_moments, shut_now, rests_now}
 use Rattle.frame_journal.proofs.Silent.{tells_then}
 use Rattle.frame_journal.proofs.checkpoint.write_checkpoint.Goals as goal
 
@@ -96,3 +96,12 @@ returns-clause-tells g c =
     tells_then (g.D.Disk.history c.args.disk.now) (g.D.Disk.history c.replace_behind.new.disk) (g.D.Disk.history c.write_synced-2.new.disk)
     (tells_then (g.D.Disk.history c.args.disk.now) (g.D.Disk.history c.write_synced.new.disk) (g.D.Disk.history c.replace_behind.new.disk) c.write_synced.ensures.tells c.replace_behind.ensures.tells)
     c.write_synced-2.ensures.tells
+
+pub returns-clause-rests : goal.returns-clause-rests
+returns-clause-rests g c = λ p ps fit is.
+    let next = g.D.Disk.history c.replace_behind.new.disk in
+    let shuts = when_ok c.write_synced.result _ (sym c.is_err.ensures.value ∙ c.if-is_err.false) c.write_synced.ensures.made in
+    let stands = when_ok c.replace_behind.result _ (sym c.is_err-2.ensures.value ∙ c.if-is_err-2.false) c.replace_behind.ensures.made (shut_now (g.D.Disk.history c.args.disk.now) (g.D.Disk.history c.write_synced.new.disk) shuts) in
+    let body = subst (λ (l : List ℕ). OnTold next (λ now. (now ≡ settled now.bytes) × StandsBehind [] l now.bytes)) is stands in
+    let opens = when_ok c.write_synced-2.result _ (sym c.is_err-3.ensures.value ∙ c.if-is_err-3.false) c.write_synced-2.ensures.made in
+    rests_now p ps next _ fit body opens
