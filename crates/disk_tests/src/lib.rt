@@ -7,3 +7,5 @@
 mod disks;
 #[cfg(test)]
 mod journals;
+#[cfg(test)]
+mod pairs;

@@ -1,20 +1,20 @@
 -- A checkpoint of a journal on two disks, from what became of the spare one.
-use Rattle.std.proofs.Common.{◌≡◌, ◌⊎◌, inl, inr, ℕ, suc, ◌+◌, ◌^◌, ◌<◌, ◌≤◌, Bool, true, false, cond, not, Result, Ok, Err, Option, Some, None, Vec, List, [], ◌∷◌, ◌++◌, length, drop, refl, sym, ap, subst, ◌∙◌, arith}
+use Rattle.std.proofs.Common.{◌≡◌, ◌⊎◌, inl, inr, ℕ, suc, ◌+◌, ◌-◌, ◌^◌, ◌<◌, ◌≤◌, Bool, true, false, cond, not, Result, Ok, Err, Option, Some, None, Vec, List, [], ◌∷◌, ◌++◌, length, drop, refl, sym, ap, subst, ◌∙◌, arith}
 use Rattle.std.specs.declared.alloc.Global.{Global}
 use Rattle.disk_model.specs.Content.{Content, LeavesOnly, settled}
 use Rattle.disk_model.specs.Disk.{OnTold}
-use Rattle.disk_model.specs.Moments.{GoesOn, LeftSince, LeavesAfter, LeavesSince, LeavesBothSince}
+use Rattle.disk_model.specs.Moments.{GoesOn, LeftSince, LeavesAfter, LeavesSince, LeavesBothSince, LeavesBothAfter}
 use Rattle.disk_model.proofs.Moments.{newest_left, goes_nowhere}
 use Rattle.frame_journal.specs.Layout.{frame, frames, block, ArePayloads, OpensWith, IsAtRest}
 use Rattle.frame_journal.specs.Reading.{payloads_of, BeginsShut}
 use Rattle.frame_journal.specs.Resting.{IsResting, Rests}
-use Rattle.frame_journal.specs.Generation.{generation_of, without_generation, checkpoint_of}
+use Rattle.frame_journal.specs.Generation.{generation_of, without_generation, generation_payload, checkpoint_of}
 use Rattle.frame_journal.specs.JournalState.{JournalState, MayOpenWith, LeavesJournal}
 use Rattle.frame_journal.specs.Calls.{Kept}
 use Rattle.frame_journal.specs.Older.{StandsBehind, OpensLesser, IsOlder, behind_first}
-use Rattle.frame_journal.specs.PairState.{MayOpenPairWith, LosesTo}
+use Rattle.frame_journal.specs.PairState.{OpensPairWith, MayOpenPairWith, LosesTo, chosen}
 use Rattle.frame_journal.specs.PairCalls.{Checkpointed, CheckpointFailed, kept_of_pair, kept_after_pair, IsPairStep}
-use Rattle.frame_journal.specs.SpareState.{StandsSpare, MayOpenSpare, IsRaised, KeepsGeneration, StandsAlone, SpareStand, IsPairSound, refused_frames, refused_at_step, pending_with, pair_of}
+use Rattle.frame_journal.specs.SpareState.{StandsSpare, MayOpenSpare, IsRaised, KeepsGeneration, StandsAlone, SpareStand, IsPairSound, is_refused, refused_frames, refused_at_step, pending_with, pair_of}
 use Rattle.frame_journal.specs.SpareSteps.{CheckpointLeaves}
 use Rattle.frame_journal.specs.Steps.{TellsOn}
 use Rattle.frame_journal.specs.declared.checkpoint.CheckpointFault.{CheckpointFault}
@@ -185,3 +185,72 @@ opened_sound history journal other b none rests rests' lesser = record {
   least : (c : Bool) → LosesTo c (generation_of journal.payloads) (generation_of other.payloads) → LosesTo c (generation_of journal.payloads) 0
   least true l = omega (arith, l)
   least false l = omega (arith, l)
+
+-- both opened disks, and their moments
+pub both_opened : (h h' k k' : List Content) (ps qs : List (List ℕ)) → LeavesAfter h h' (OpensWith ps) → LeavesAfter k k' (OpensWith qs) → LeavesBothAfter h h' k k' (OpensPairWith (without_generation (chosen ps qs)))
+both_opened h h' k k' ps qs a b = record {
+  goes_on = a.goes_on;
+  goes_on' = b.goes_on;
+  leaves = λ i j left left'. record { in_first = ps; in_second = qs; opens_first = a.leaves i left; opens_second = b.leaves j left'; goes_on = refl };
+}
+
+pub reads_both : (h k : List Content) (ps qs payloads : List (List ℕ)) → payloads ≡ without_generation (chosen ps qs) → OnTold h (λ now. OpensWith ps now.bytes) → OnTold k (λ now. OpensWith qs now.bytes)
+    → OnTold h (λ now. OnTold k (λ now'. OpensPairWith payloads now.bytes now'.bytes))
+reads_both h k ps qs payloads is first second =
+    told_from h (λ now. OpensWith ps now.bytes) (λ now. OnTold k (λ now'. OpensPairWith payloads now.bytes now'.bytes))
+    (λ now p. told_from k (λ now'. OpensWith qs now'.bytes) (λ now'. OpensPairWith payloads now.bytes now'.bytes)
+    (λ now' q. record { in_first = ps; in_second = qs; opens_first = p; opens_second = q; goes_on = is }) second) first
+
+pub idle_is : (s : Spare) → is_refused s ≡ false → s ≡ standing.Idle
+idle_is standing.Idle is = refl
+idle_is (standing.Untouched fs) is = absurd cc
+idle_is (standing.Shut fs) is = absurd cc
+idle_is (standing.Staged fs) is = absurd cc
+
+-- What the code's values are of a checkpoint, and what its clauses say of the spare disk.
+module _ {D : Type 0} (history : D → List Content) (journal : JournalState D) (spare spare' : D) (b : Bool) (r : Result (Unit {0}) CheckpointFault) (v : Vec (Vec ℕ Global) Global) (behind : List ℕ) (n : ℕ) (qs : List (List ℕ))
+    (sound : IsPairSound history journal spare b standing.Idle) (tells : TellsOn (history spare) (history spare')) (none : journal.pending ≡ None)
+    (is : payloads_of v.items ≡ checkpoint_of (n + 1) qs) (number : n ≡ generation_of journal.payloads) (bound : generation_of journal.payloads < 2 ^ 64 - 1) (fit : ArePayloads (payloads_of v.items))
+    (spelt : behind ≡ behind_first (payloads_of v.items))
+    (leaves : (on_second : Bool) (generation : ℕ) (payload : List ℕ) (payloads : List (List ℕ)) → ArePayloads (payload ∷ payloads) → behind ≡ behind_first (payload ∷ payloads) → LosesTo on_second generation 0
+        → OnTold (history spare) (λ now. LeavesOnly now (IsOlder (LosesTo on_second generation))) → OnTold (history spare') (λ now. CheckpointLeaves r (LosesTo on_second generation) (payload ∷ payloads) now))
+    (moments : (on_second : Bool) (generation : ℕ) (payload : List ℕ) (payloads : List (List ℕ)) → ArePayloads (payload ∷ payloads) → behind ≡ behind_first (payload ∷ payloads) → LosesTo on_second generation 0
+        → OnTold (history spare) (λ now. LeavesOnly now (IsOlder (LosesTo on_second generation)))
+        → LeavesSince (history spare) (history spare') (λ image. OpensLesser (LosesTo on_second generation) image ⊎ OpensWith (payload ∷ payloads) image)) where
+  abbrev g : ℕ
+  g = generation_of journal.payloads
+
+  small : g + 1 < 2 ^ 64
+  small = omega (arith, bound)
+
+  pub all_is : payloads_of v.items ≡ checkpoint_of (g + 1) qs
+  all_is = is ∙ ap (λ k. checkpoint_of (k + 1) qs) number
+
+  all_fit : ArePayloads (checkpoint_of (g + 1) qs)
+  all_fit = subst ArePayloads all_is fit
+
+  all_spelt : behind ≡ behind_first (checkpoint_of (g + 1) qs)
+  all_spelt = spelt ∙ ap behind_first all_is
+
+  its_leaves : LosesTo b g 0 → OnTold (history spare) (λ now. StandsSpare standing.Idle (LosesTo b g) now) → OnTold (history spare') (λ now. CheckpointLeaves r (LosesTo b g) (payloads_of v.items) now)
+  its_leaves least here = subst (λ l. OnTold (history spare') (λ now. CheckpointLeaves r (LosesTo b g) l now)) (sym all_is) (leaves b g (generation_payload (g + 1)) qs all_fit all_spelt least here)
+
+  its_moments : LosesTo b g 0 → OnTold (history spare) (λ now. StandsSpare standing.Idle (LosesTo b g) now) → LeavesSince (history spare) (history spare') (λ image. OpensLesser (LosesTo b g) image ⊎ OpensWith (payloads_of v.items) image)
+  its_moments least here = subst (λ l. LeavesSince (history spare) (history spare') (λ image. OpensLesser (LosesTo b g) image ⊎ OpensWith l image)) (sym all_is) (moments b g (generation_payload (g + 1)) qs all_fit all_spelt least here)
+
+  module _ (fault : CheckpointFault) (failed : r ≡ Err fault) where
+    fault_leaves : LosesTo b g 0 → OnTold (history spare) (λ now. StandsSpare standing.Idle (LosesTo b g) now) → OnTold (history spare') (λ now. CheckpointLeaves (Err fault) (LosesTo b g) (payloads_of v.items) now)
+    fault_leaves least here = subst (λ (k : Result (Unit {0}) CheckpointFault). OnTold (history spare') (λ now. CheckpointLeaves k (LosesTo b g) (payloads_of v.items) now)) failed (its_leaves least here)
+
+    pub refused_sound : IsPairSound history journal spare' b (refused_at_step fault v)
+    refused_sound = fault_sound history journal spare spare' b standing.Idle sound refl tells none qs fault v all_is small fit fault_leaves its_moments
+
+    pub refused_step : IsPairStep history (pair_of journal spare b standing.Idle) (CheckpointFailed qs) (pair_of journal spare' b (refused_at_step fault v))
+    refused_step = fault_step history journal spare spare' b standing.Idle sound refl tells none qs fault v all_is small fit fault_leaves its_moments
+
+  module _ (rests : OnTold (history journal.disk) (Rests journal.payloads)) (here : OnTold (history spare') (Rests (payloads_of v.items))) where
+    pub done_sound : IsPairSound history (moved spare' (payloads_of v.items)) journal.disk (not b) standing.Idle
+    done_sound = moved_sound history journal spare spare' b standing.Idle sound refl tells none rests qs (payloads_of v.items) all_is small fit here its_moments
+
+    pub done_step : IsPairStep history (pair_of journal spare b standing.Idle) (Checkpointed qs) (pair_of (moved spare' (payloads_of v.items)) journal.disk (not b) standing.Idle)
+    done_step = moved_step history journal spare spare' b standing.Idle sound refl tells none rests qs (payloads_of v.items) all_is small fit here its_moments

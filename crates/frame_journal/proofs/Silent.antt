@@ -38,3 +38,7 @@ tells_failed change (now ∷ past) new (inr made) = from_now (_ ∷ []) now past
 pub tells_syncing : {T E : Type 0} (r : Result T E) (old new : List Content) → OnOk r (Syncs old new) → OnErr r (new ≡ old) → TellsOn old new
 tells_syncing (Ok x) old new made failed = tells_sync old new made
 tells_syncing (Err e) old new made failed = tells_same old new failed
+
+-- a sync, and calls that change nothing
+pub tells_synced : (old s l : List Content) → Syncs old s → l ≡ s → TellsOn old l
+tells_synced old s l made same = tells_then old s l (tells_sync old s made) (tells_same s l same)

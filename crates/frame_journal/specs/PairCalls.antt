@@ -44,3 +44,24 @@ pub record IsPairStep {D : Type 0} (history : D → List Content) (old : PairSta
   pub moments : LeavesBothSince (history old.first) (history new.first) (history old.second) (history new.second) (MayOpenPairWith old.payloads (pair_in_course (kept_of_pair old) call))
   -- and behind it
   pub durable : OnTold (history new.first) (λ first. OnTold (history new.second) (λ second. LeavesPair new first second))
+
+-- calls, each with the journal that it leaves, the first one first
+abbrev pub PairRun : Type 0 → Type 0
+PairRun D = List (PairCall × PairState D)
+
+abbrev pub ArePairSteps : {D : Type 0} → (D → List Content) → PairState D → PairRun D → Type 0
+ArePairSteps history old [] = Unit {0}
+ArePairSteps history old (step ∷ run) = IsPairStep history old step.0 step.1 × ArePairSteps history step.1 run
+
+-- the journal behind a run
+abbrev pub last_pair : {D : Type 0} → PairState D → PairRun D → PairState D
+last_pair old [] = old
+last_pair old (step ∷ run) = last_pair step.1 run
+
+-- what is acknowledged behind calls
+abbrev pub kept_behind_pair : Kept → List PairCall → Kept
+kept_behind_pair kept [] = kept
+kept_behind_pair kept (call ∷ calls) = kept_behind_pair (kept_after_pair kept call) calls
+
+abbrev pub pair_calls_of : {D : Type 0} → PairRun D → List PairCall
+pair_calls_of run = map (λ step. step.0) run

@@ -1,5 +1,5 @@
 //! The generation of a journal, and the frames of a checkpoint.
-ghost use Rattle.std.specs.Prelude.{◌≡◌, ℕ, ◌+◌, ◌^◌, ◌<◌, ◌++◌, [], ◌∷◌, List, length, IfOk, IsTrue};
+ghost use Rattle.std.specs.Prelude.{◌≡◌, ℕ, ◌+◌, ◌^◌, ◌<◌, ◌++◌, [], ◌∷◌, List, length, drop, IfOk, IsTrue};
 ghost use Rattle.frame_journal.specs.Layout.{frame, frames, IsPayload, ArePayloads};
 ghost use Rattle.frame_journal.specs.Reading.{payloads_of};
 ghost use Rattle.frame_journal.specs.Generation.{is_generation, number_in, generation_payload, generation_of, checkpoint_of};
@@ -57,8 +57,38 @@ fn generation_payload(alloc: Global, number: u64) -> Result<Vec<u8>, AllocError>
     Ok(payload)
 }
 
-/// The payloads of a checkpoint's frames: its generation, and these.
-pub(crate) fn with_generation(
+/// The payloads of a checkpoint's frames, and the bytes of these with a shut gate behind them.
+#[derive(Drop)]
+pub struct CheckpointEntry {
+    pub frames: Vec<Vec<u8>>,
+    pub bytes: Vec<u8>,
+}
+
+/// The frames of a checkpoint: its generation, and these payloads.
+pub(crate) fn checkpoint_entry(
+    alloc: Global,
+    number: u64,
+    payloads: &[Vec<u8>],
+) -> Result<CheckpointEntry, AllocError>
+    ensures frames { IfOk result (λ entry. payloads_of entry.frames.items ≡ checkpoint_of number (payloads_of payloads.now)) }
+    ensures bytes { IfOk result (λ entry. entry.bytes.items ≡ frames (payloads_of entry.frames.items) ++ 0 ∷ []) }
+    ensures fit { IfOk result (λ entry. ArePayloads (payloads_of entry.frames.items)) }
+{
+    let frames = with_generation(alloc, number, payloads)?;
+    let bytes = spelt(alloc, &frames)?;
+    Ok(CheckpointEntry { frames, bytes })
+}
+
+/// The bytes behind a first gate.
+pub(crate) fn behind_gate(bytes: &[u8]) -> &[u8]
+    requires { 0 < length bytes.now }
+    ensures { result.now ≡ drop 1 bytes.now }
+{
+    &bytes[1..]
+}
+
+// The payloads of a checkpoint's frames.
+fn with_generation(
     alloc: Global,
     number: u64,
     payloads: &[Vec<u8>],
@@ -73,8 +103,8 @@ pub(crate) fn with_generation(
     Ok(all)
 }
 
-/// The bytes of these frames, and a shut gate behind them.
-pub(crate) fn spelt(alloc: Global, payloads: &[Vec<u8>]) -> Result<Vec<u8>, AllocError>
+// The bytes of these frames, and a shut gate behind them.
+fn spelt(alloc: Global, payloads: &[Vec<u8>]) -> Result<Vec<u8>, AllocError>
     ensures bytes { IfOk result (λ bytes. bytes.items ≡ frames (payloads_of payloads.now) ++ 0 ∷ []) }
     ensures fit { IfOk result (λ bytes. ArePayloads (payloads_of payloads.now)) }
 {

@@ -6,6 +6,9 @@ ghost use Rattle.frame_journal.specs.Layout.{OpensWith, IsBadFrame};
 ghost use Rattle.frame_journal.specs.JournalState.{JournalState, MayOpenWith, LeavesJournal};
 ghost use Rattle.frame_journal.specs.Calls.{Call, Run, AreSteps, last, kept_of, kept_behind, in_course, calls_of, LeftIn, Tells};
 
+ghost use Rattle.frame_journal.specs.PairState.{PairState, MayOpenPairWith};
+ghost use Rattle.frame_journal.specs.PairCalls.{PairCall, PairRun, ArePairSteps, last_pair, kept_of_pair, kept_behind_pair, pair_in_course, pair_calls_of};
+
 use disk_model::Disk;
 
 /// A file opens with one list of payloads, or has one bad frame, and not both.
@@ -32,4 +35,20 @@ pub fn every_run<D: Disk>()
     ensures acknowledged { (old : JournalState D) (run : Run D) (image : List ℕ) → AreSteps D.history old run → Tells (D.history old.disk)
         → old.pending ≡ None → OnTold (D.history old.disk) (LeavesJournal old)
         → LeftIn D.history old run image → (more : List (List ℕ)) × OpensWith (old.payloads ++ more) image }
+{}
+
+/// The same of a journal on two disks: the moments of each call are those of the two disks, in
+/// whatever order they came. A crash leaves what the calls before it acknowledged, or what the call
+/// may leave in its place; a checkpoint puts its payloads in place of all that was acknowledged.
+pub fn every_pair_run<D: Disk>()
+    ensures goes_on { (old : PairState D) (run : PairRun D) → ArePairSteps D.history old run
+        → GoesOn (D.history old.first) (D.history (last_pair old run).first) × GoesOn (D.history old.second) (D.history (last_pair old run).second) }
+    ensures kept { (old : PairState D) (run : PairRun D) → ArePairSteps D.history old run → Tells (D.history old.first) → Tells (D.history old.second)
+        → kept_of_pair (last_pair old run) ≡ kept_behind_pair (kept_of_pair old) (pair_calls_of run) }
+    ensures moments { (old : PairState D) (before : PairRun D) (call : PairCall) (new : PairState D) (behind : PairRun D) (image image' : List ℕ)
+        → ArePairSteps D.history old (before ++ (call, new) ∷ behind) → Tells (D.history old.first) → Tells (D.history old.second)
+        → LeftSince (D.history (last_pair old before).first) (D.history new.first) image
+        → LeftSince (D.history (last_pair old before).second) (D.history new.second) image'
+        → MayOpenPairWith (kept_behind_pair (kept_of_pair old) (pair_calls_of before)).payloads
+            (pair_in_course (kept_behind_pair (kept_of_pair old) (pair_calls_of before)) call) image image' }
 {}

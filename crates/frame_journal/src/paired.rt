@@ -13,7 +13,7 @@ ghost use Rattle.frame_journal.specs.PairCalls.{IsPairStep, PairCall, checkpoint
 
 use crate::checkpoint::write_checkpoint;
 use crate::error::{AppendError, OpenError};
-use crate::generation::{generation_of, is_generation, spelt, with_generation};
+use crate::generation::{behind_gate, checkpoint_entry, generation_of, is_generation};
 use crate::journal::Journal;
 use crate::spare::{Spare, clear_spare};
 use disk_model::Disk;
@@ -173,21 +173,26 @@ impl<D: Disk> PairedJournal<D> {
         ensures counts { faults_of D.faults self.old ≤ faults_of D.faults self.new }
         ensures quiet { OnOk result (faults_of D.faults self.new ≡ faults_of D.faults self.old) }
     {
-        if self.is_closed() {
+        if self.standing.is_refused() {
+            return Err(AppendError::Closed);
+        }
+        if self.journal.is_closed() {
             return Err(AppendError::Closed);
         }
         let generation = generation_of(self.journal.frames()) + 1;
-        let frames = with_generation(alloc, generation, payloads)?;
-        let bytes = spelt(alloc, &frames)?;
-        match write_checkpoint(&mut self.spare, &bytes[1..]) {
+        let entry = match checkpoint_entry(alloc, generation, payloads) {
+            Ok(entry) => entry,
+            Err(_) => return Err(AppendError::Memory),
+        };
+        match write_checkpoint(&mut self.spare, behind_gate(&entry.bytes)) {
             Ok(()) => {
-                let gate = bytes.len() as u64 - 1;
-                self.journal.move_to(&mut self.spare, frames, gate);
+                let gate = entry.bytes.len() as u64 - 1;
+                self.journal.move_to(&mut self.spare, entry.frames, gate);
                 self.on_second = !self.on_second;
                 Ok(())
             }
             Err(fault) => {
-                self.standing = Spare::refused(fault, frames);
+                self.standing = Spare::refused(fault, entry.frames);
                 Err(AppendError::DiskFault)
             }
         }
@@ -246,6 +251,44 @@ impl<D: Disk> PairedJournal<D> {
         ensures { result ≡ self.now.closed }
     {
         self.standing.is_refused() || self.journal.is_closed()
+    }
+
+    /// The first disk.
+    pub fn first(&self) -> &D
+        ensures { result.now ≡ self.now.first }
+    {
+        if self.on_second {
+            &self.spare
+        } else {
+            self.journal.disk()
+        }
+    }
+
+    /// The second disk.
+    pub fn second(&self) -> &D
+        ensures { result.now ≡ self.now.second }
+    {
+        if self.on_second {
+            self.journal.disk()
+        } else {
+            &self.spare
+        }
+    }
+
+    /// Gives both disks back, the first one first.
+    pub fn into_disks(self) -> (D, D)
+        ensures first { result.0 ≡ self.first }
+        ensures second { result.1 ≡ self.second }
+    {
+        let PairedJournal {
+            journal,
+            spare,
+            on_second,
+            standing,
+        } = self;
+        drop(standing);
+        let disk = journal.into_disk();
+        if on_second { (spare, disk) } else { (disk, spare) }
     }
 }
 

@@ -9,6 +9,7 @@ invariant-loop-payloads g l = record {
   inside : l.place < l.end;
   same : g.D.Disk.history l.disk ≡ g.D.Disk.history l.fn.disk;
   counts : g.D.Disk.faults l.fn.disk ≤ g.D.Disk.faults l.disk;
+  quiet : g.D.Disk.faults l.disk ≡ g.D.Disk.faults l.fn.disk;
 }
 
 abbrev pub decreases-loop-payloads : goal.decreases-loop-payloads

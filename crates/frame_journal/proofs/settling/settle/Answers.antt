@@ -5,6 +5,7 @@ use Rattle.frame_journal.specs.Layout.{OpensWith}
 use Rattle.frame_journal.specs.Reading.{payloads_of, EndsAt, EndsAs}
 use Rattle.frame_journal.proofs.Leaving.{then_fails, then_writes, then_cuts}
 use Rattle.frame_journal.proofs.Settled.{synced_later, first_ready, cut_ready, cut_resting}
+use Rattle.frame_journal.proofs.Silent.{tells_then, tells_synced}
 use Rattle.frame_journal.proofs.settling.settle.Goals as goal
 
 pub returns-in_err-end-clause-later : goal.returns-in_err-end-clause-later
@@ -63,3 +64,24 @@ returns-in_ok-cut_synced-in-Shut-clause-rests g c =
 
 pub returns-in-Bad-clause-later : goal.returns-in-Bad-clause-later
 returns-in-Bad-clause-later g c = λ ps opens. synced_later _ _ _ ps c.in_ok-sync.ensures.made (c.read_frames.ensures.same ∙ c.length.ensures.same) opens
+
+pub returns-in_err-end-clause-tells : goal.returns-in_err-end-clause-tells
+returns-in_err-end-clause-tells g c = tells_synced _ _ _ c.in_ok-sync.ensures.made c.length.ensures.same
+
+pub returns-in_err-write_synced-clause-tells : goal.returns-in_err-write_synced-clause-tells
+returns-in_err-write_synced-clause-tells g c = tells_then _ _ _ (tells_synced _ _ _ c.in_ok-sync.ensures.made c.length.ensures.same) c.in_err-write_synced.ensures.tells
+
+pub returns-then-end-le1-clause-tells : goal.returns-then-end-le1-clause-tells
+returns-then-end-le1-clause-tells g c = tells_then _ _ _ (tells_synced _ _ _ c.in_ok-sync.ensures.made c.length.ensures.same) c.in_ok-write_synced.ensures.tells
+
+pub returns-in_err-read-clause-tells : goal.returns-in_err-read-clause-tells
+returns-in_err-read-clause-tells g c = tells_synced _ _ _ c.in_ok-sync.ensures.made (c.read_frames.ensures.same ∙ c.length.ensures.same)
+
+pub returns-in_err-cut_synced-in-Shut-clause-tells : goal.returns-in_err-cut_synced-in-Shut-clause-tells
+returns-in_err-cut_synced-in-Shut-clause-tells g c = tells_then _ _ _ (tells_synced _ _ _ c.in_ok-sync.ensures.made (c.read_frames.ensures.same ∙ c.length.ensures.same)) c.in_err-cut_synced-in-Shut.ensures.tells
+
+pub returns-in_ok-cut_synced-in-Shut-clause-tells : goal.returns-in_ok-cut_synced-in-Shut-clause-tells
+returns-in_ok-cut_synced-in-Shut-clause-tells g c = tells_then _ _ _ (tells_synced _ _ _ c.in_ok-sync.ensures.made (c.read_frames.ensures.same ∙ c.length.ensures.same)) c.in_ok-cut_synced-in-Shut.ensures.tells
+
+pub returns-in-Bad-clause-tells : goal.returns-in-Bad-clause-tells
+returns-in-Bad-clause-tells g c = tells_synced _ _ _ c.in_ok-sync.ensures.made (c.read_frames.ensures.same ∙ c.length.ensures.same)

@@ -4,6 +4,7 @@ use Rattle.frame_journal.specs.Reading.{payloads_of}
 use Rattle.frame_journal.specs.Standing.{Stands, MayBeOpen}
 use Rattle.frame_journal.specs.declared.standing.Standing.{Standing}
 use Rattle.frame_journal.proofs.Reopening.{when_ok, shut_moments, again_moments, again_faulty, again_synced, again_same, again_no_bad, again_rests}
+use Rattle.frame_journal.proofs.Silent.{tells_then}
 use Rattle.frame_journal.proofs.standing.ready_again.Goals as goal
 
 pub returns-then-is_err-clause-moments : goal.returns-then-is_err-clause-moments
@@ -109,3 +110,15 @@ returns-in-Err-BadFrame-clause-bad g c = λ ps stands.
     let h2 = g.D.Disk.history c.settle.new.disk in
     let shut : MayBeOpen s1 → ⊥ = when_ok c.shut_refused.result (MayBeOpen s1 → ⊥) (sym c.is_err.ensures.value ∙ c.if-is_err.false) c.shut_refused.ensures.shut in
     λ n is. again_no_bad s0 s1 h0 h1 h2 ps c.args.gate stands (c.shut_refused.ensures.sound ps stands) (c.shut_refused.ensures.later ps stands) shut c.settle.ensures.later n (c.in-Err-BadFrame.ensures.bad n (c.in-Err-BadFrame.field-0-is ∙ is))
+
+pub returns-in-Ok-clause-tells : goal.returns-in-Ok-clause-tells
+returns-in-Ok-clause-tells g c = tells_then (g.D.Disk.history c.args.disk.now) (g.D.Disk.history c.shut_refused.new.disk) (g.D.Disk.history c.settle.new.disk) c.shut_refused.ensures.tells c.settle.ensures.tells
+
+pub returns-in-Err-DiskFault-clause-tells : goal.returns-in-Err-DiskFault-clause-tells
+returns-in-Err-DiskFault-clause-tells g c = tells_then (g.D.Disk.history c.args.disk.now) (g.D.Disk.history c.shut_refused.new.disk) (g.D.Disk.history c.settle.new.disk) c.shut_refused.ensures.tells c.settle.ensures.tells
+
+pub returns-in-Err-BadFrame-clause-tells : goal.returns-in-Err-BadFrame-clause-tells
+returns-in-Err-BadFrame-clause-tells g c = tells_then (g.D.Disk.history c.args.disk.now) (g.D.Disk.history c.shut_refused.new.disk) (g.D.Disk.history c.settle.new.disk) c.shut_refused.ensures.tells c.settle.ensures.tells
+
+pub returns-in-Err-Memory-clause-tells : goal.returns-in-Err-Memory-clause-tells
+returns-in-Err-Memory-clause-tells g c = tells_then (g.D.Disk.history c.args.disk.now) (g.D.Disk.history c.shut_refused.new.disk) (g.D.Disk.history c.settle.new.disk) c.shut_refused.ensures.tells c.settle.ensures.tells
