@@ -248,7 +248,11 @@ module _ {D : Type 0} (history : D → List Content) (journal : JournalState D) 
     pub refused_step : IsPairStep history (pair_of journal spare b standing.Idle) (CheckpointFailed qs) (pair_of journal spare' b (refused_at_step fault v))
     refused_step = fault_step history journal spare spare' b standing.Idle sound refl tells none qs fault v all_is small fit fault_leaves its_moments
 
-  module _ (rests : OnTold (history journal.disk) (Rests journal.payloads)) (here : OnTold (history spare') (Rests (payloads_of v.items))) where
+  module _ (rests : OnTold (history journal.disk) (Rests journal.payloads))
+      (written : (payload : List ℕ) (payloads : List (List ℕ)) → ArePayloads (payload ∷ payloads) → behind ≡ behind_first (payload ∷ payloads) → OnTold (history spare') (Rests (payload ∷ payloads))) where
+    here : OnTold (history spare') (Rests (payloads_of v.items))
+    here = subst (λ l. OnTold (history spare') (Rests l)) (sym all_is) (written (generation_payload (g + 1)) qs all_fit all_spelt)
+
     pub done_sound : IsPairSound history (moved spare' (payloads_of v.items)) journal.disk (not b) standing.Idle
     done_sound = moved_sound history journal spare spare' b standing.Idle sound refl tells none rests qs (payloads_of v.items) all_is small fit here its_moments
 
