@@ -43,7 +43,7 @@ invariant_of-self g c =
     let number : n ≡ generation_of j.journal.payloads = c.generation_of-generation.ensures ∙ ap generation_of c.frames.ensures in
     let bound : generation_of j.journal.payloads < 2 ^ 64 - 1 = subst (λ (p : PairState g.row.D.Denot). p.generation < 2 ^ 64 - 1) (sym c.self.view_is) c.requires in
     let spelt : c.behind_gate.result.now ≡ behind_first (payloads_of v.items) = c.behind_gate.ensures ∙ ap (drop 1) (c.deref.ensures.value ∙ c.in-Ok.ensures.bytes) in
-    let done = done_sound h j.journal j.spare next b _ v c.behind_gate.result.now n qs sound c.write_checkpoint.ensures.tells none c.in-Ok.ensures.frames number bound c.in-Ok.ensures.fit spelt c.in-Ok-write_checkpoint.ensures.leaves c.in-Ok-write_checkpoint.ensures.moments (c.is_closed.ensures.rests c.if-is_closed.false) c.in-Ok-write_checkpoint.ensures.rests in
+    let done = done_sound h j.journal j.spare next b c.write_checkpoint.result v c.behind_gate.result.now n qs sound c.write_checkpoint.ensures.tells none c.in-Ok.ensures.frames number bound c.in-Ok.ensures.fit spelt c.write_checkpoint.ensures.leaves c.write_checkpoint.ensures.moments (c.is_closed.ensures.rests c.if-is_closed.false) c.in-Ok-write_checkpoint.ensures.rests in
     let standing_as = subst (λ (s : Spare). IsPairSound h (moved next (payloads_of v.items)) j.journal.disk (not b) s) (sym idle) done in
     let spare_as = subst (λ (d : g.row.D.Denot). IsPairSound h (moved next (payloads_of v.items)) d (not b) j.standing) (sym c.move_to.ensures.there) standing_as in
     subst (λ (k : JournalState g.row.D.Denot). IsPairSound h k c.move_to.new.disk (not b) j.standing) (sym c.move_to.ensures.here) spare_as
@@ -63,7 +63,7 @@ returns-in-Ok-write_checkpoint-clause-step g c =
     let number : n ≡ generation_of j.journal.payloads = c.generation_of-generation.ensures ∙ ap generation_of c.frames.ensures in
     let bound : generation_of j.journal.payloads < 2 ^ 64 - 1 = subst (λ (p : PairState g.row.D.Denot). p.generation < 2 ^ 64 - 1) (sym c.self.view_is) c.requires in
     let spelt : c.behind_gate.result.now ≡ behind_first (payloads_of v.items) = c.behind_gate.ensures ∙ ap (drop 1) (c.deref.ensures.value ∙ c.in-Ok.ensures.bytes) in
-    let done = done_step h j.journal j.spare next b _ v c.behind_gate.result.now n qs sound c.write_checkpoint.ensures.tells none c.in-Ok.ensures.frames number bound c.in-Ok.ensures.fit spelt c.in-Ok-write_checkpoint.ensures.leaves c.in-Ok-write_checkpoint.ensures.moments (c.is_closed.ensures.rests c.if-is_closed.false) c.in-Ok-write_checkpoint.ensures.rests in
+    let done = done_step h j.journal j.spare next b c.write_checkpoint.result v c.behind_gate.result.now n qs sound c.write_checkpoint.ensures.tells none c.in-Ok.ensures.frames number bound c.in-Ok.ensures.fit spelt c.write_checkpoint.ensures.leaves c.write_checkpoint.ensures.moments (c.is_closed.ensures.rests c.if-is_closed.false) c.in-Ok-write_checkpoint.ensures.rests in
     let standing_as = subst (λ (s : Spare). IsPairStep h (pair_of j.journal j.spare b s) (Checkpointed qs) (pair_of (moved next (payloads_of v.items)) j.journal.disk (not b) s)) (sym idle) done in
     let spare_as = subst (λ (d : g.row.D.Denot). IsPairStep h (pair_of j.journal j.spare b j.standing) (Checkpointed qs) (pair_of (moved next (payloads_of v.items)) d (not b) j.standing)) (sym c.move_to.ensures.there) standing_as in
     rw (← c.self.view_is)
