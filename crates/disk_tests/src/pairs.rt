@@ -7,21 +7,29 @@ use std::test::Fail;
 
 // What is acknowledged before a checkpoint, and its payloads.
 const OLD: [&[u8]; 2] = [b"old", b"\x02\x03"];
+
 const NEW: [&[u8]; 3] = [b"", b"new", &[1; 12]];
 
-const TEARS: [Tear; 4] = [
+const TEARS: [Tear; 5] = [
     Tear::Nothing,
     Tear::Whole,
     Tear::Half,
+    Tear::Filled(0),
     Tear::Filled(1),
 ];
 
-// Opening an empty disk makes the calls 0 to 3, and a checkpoint the next seven.
-const FIRST_CALL: u64 = 4;
-const LAST_CALL: u64 = 10;
+// The calls of a checkpoint on the spare disk, and a number that no call has.
+const CALLS: u64 = 7;
 
-fn memory(alloc: Global, bytes: &[u8], calls: &[u64], stop: Option<u64>) -> Result<MemDisk, Fail> {
-    Ok(MemDisk::new(alloc, Vec::from_slice(alloc, bytes)?, calls, stop)?)
+const NEVER: u64 = 1_000_000;
+
+fn memory(alloc: Global, bytes: &[u8]) -> Result<MemDisk, AllocError> {
+    MemDisk::new(alloc, Vec::from_slice(alloc, bytes)?, &[], None)
+}
+
+// An empty disk that fails at one call, and stops at another.
+fn failing(alloc: Global, call: u64, stop: u64) -> Result<MemDisk, AllocError> {
+    MemDisk::new(alloc, Vec::new(alloc), &[call], Some(stop))
 }
 
 fn open<D: Disk + Drop>(alloc: Global, first: D, second: D) -> Result<PairedJournal<D>, OpenError> {
@@ -69,20 +77,82 @@ fn has<D: Disk>(journal: &PairedJournal<D>, payloads: &[&[u8]]) -> bool {
             .all(|(frame, payload)| frame.as_slice() == *payload)
 }
 
-// A journal on two empty disks, with the old payloads; the second disk fails at these calls.
-fn journal_of_old(
+// What happens to the disks of a journal with the old payloads. Calls are counted from its next
+// checkpoint on.
+#[derive(Clone, Copy)]
+struct Trouble {
+    // Whether the spare disk holds an older journal; else it is empty.
+    on_older: bool,
+    // The spare disk fails at this call, and stops at that.
+    fail: u64,
+    stop: u64,
+    // The other one stops at this call.
+    other: u64,
+}
+
+fn journal_of_old(alloc: Global, trouble: Trouble) -> Result<PairedJournal<MemDisk>, Fail> {
+    let journal = if trouble.on_older {
+        beside_older(alloc, trouble)?
+    } else {
+        beside_nothing(alloc, trouble)?
+    };
+    Ok(journal.ok().ok_or("it opens")?)
+}
+
+// The spare disk made four calls, and the other one twelve.
+fn beside_nothing(
     alloc: Global,
-    calls: &[u64],
-    stop: Option<u64>,
-) -> Result<PairedJournal<MemDisk>, Fail> {
-    let first = memory(alloc, b"", &[], None)?;
-    let second = memory(alloc, b"", calls, stop)?;
-    let mut journal = open(alloc, first, second).ok().ok_or("it opens")?;
+    trouble: Trouble,
+) -> Result<Result<PairedJournal<MemDisk>, AppendError>, Fail> {
+    let first = failing(alloc, NEVER, trouble.other.saturating_add(12))?;
+    let second = failing(
+        alloc,
+        trouble.fail.saturating_add(4),
+        trouble.stop.saturating_add(4),
+    )?;
+    let journal = open(alloc, first, second).ok().ok_or("it opens")?;
+    Ok(with_old(alloc, journal))
+}
+
+fn with_old(
+    alloc: Global,
+    journal: PairedJournal<MemDisk>,
+) -> Result<PairedJournal<MemDisk>, AppendError> {
+    let mut journal = journal;
     for payload in &OLD {
-        put(&mut journal, alloc, payload)
-            .ok()
-            .ok_or("there is memory")?;
+        put(&mut journal, alloc, payload)?;
     }
+    Ok(journal)
+}
+
+// The spare disk made eight calls, and the other one eleven.
+fn beside_older(
+    alloc: Global,
+    trouble: Trouble,
+) -> Result<Result<PairedJournal<MemDisk>, AppendError>, Fail> {
+    let first = failing(
+        alloc,
+        trouble.fail.saturating_add(8),
+        trouble.stop.saturating_add(8),
+    )?;
+    let second = failing(alloc, NEVER, trouble.other.saturating_add(11))?;
+    let journal = open(alloc, first, second).ok().ok_or("it opens")?;
+    let payloads = vectors(alloc, &OLD)?;
+    Ok(moved_to(alloc, journal, &payloads))
+}
+
+fn moved_to(
+    alloc: Global,
+    journal: PairedJournal<MemDisk>,
+    payloads: &[Vec<u8>],
+) -> Result<PairedJournal<MemDisk>, AppendError> {
+    let mut journal = journal;
+    put(
+        &mut journal,
+        alloc,
+        b"an older payload, and longer than those behind it",
+    )?;
+    replace(&mut journal, alloc, payloads)?;
     Ok(journal)
 }
 
@@ -92,11 +162,19 @@ fn after_crash(
     journal: &PairedJournal<MemDisk>,
     tear: Tear,
 ) -> Result<PairedJournal<MemDisk>, Fail> {
-    let first = journal.first().image(alloc, tear)?;
-    let second = journal.second().image(alloc, tear)?;
-    let first = MemDisk::new(alloc, first, &[], None)?;
-    let second = MemDisk::new(alloc, second, &[], None)?;
+    let first = memory(alloc, &journal.first().image(alloc, tear)?)?;
+    let second = memory(alloc, &journal.second().image(alloc, tear)?)?;
     Ok(open(alloc, first, second).ok().ok_or("it opens")?)
+}
+
+// A journal at rest.
+fn sound(on_older: bool) -> Trouble {
+    Trouble {
+        on_older,
+        fail: NEVER,
+        stop: NEVER,
+        other: NEVER,
+    }
 }
 
 // Checkpoints of 0, 1 and 100 payloads, one behind the other, so that the disks change places each
@@ -104,7 +182,7 @@ fn after_crash(
 #[test]
 fn checkpoints_of_many_sizes_are_found(rt: HostRuntime) -> Result<(), Fail> {
     let alloc = rt.alloc();
-    let mut journal = journal_of_old(alloc, &[], None)?;
+    let mut journal = journal_of_old(alloc, sound(false))?;
     for size in [0usize, 1, 100] {
         let mut payloads = Vec::new(alloc);
         for _ in 0..size {
@@ -115,6 +193,10 @@ fn checkpoints_of_many_sizes_are_found(rt: HostRuntime) -> Result<(), Fail> {
         let (first, second) = journal.into_disks();
         journal = open(alloc, first, second).ok().ok_or("it opens")?;
         assert_eq!(rt; journal.frames().len(), size.saturating_add(1), "{size}");
+        assert_eq!(rt;
+            journal.frames().last().map(|payload| payload.as_slice()),
+            Some(b"behind".as_slice())
+        );
     }
     Ok(())
 }
@@ -125,52 +207,135 @@ fn checkpoints_of_many_sizes_are_found(rt: HostRuntime) -> Result<(), Fail> {
 fn a_stop_at_each_call_of_a_checkpoint(rt: HostRuntime) -> Result<(), Fail> {
     let alloc = rt.alloc();
     let payloads = vectors(alloc, &NEW)?;
-    for stop in FIRST_CALL..LAST_CALL + 2 {
-        let mut journal = journal_of_old(alloc, &[], Some(stop))?;
-        let made = replace(&mut journal, alloc, &payloads).is_ok();
-        assert_eq!(rt; made, stop > LAST_CALL, "at {stop}");
-        for tear in &TEARS {
-            let found = after_crash(alloc, &journal, *tear)?;
-            assert!(rt; has(&found, &NEW) || !made && has(&found, &OLD), "at {stop}, {tear:?}");
+    for on_older in [false, true] {
+        for stop in 0..CALLS + 1 {
+            let mut journal = journal_of_old(
+                alloc,
+                Trouble {
+                    stop,
+                    ..sound(on_older)
+                },
+            )?;
+            let made = replace(&mut journal, alloc, &payloads).is_ok();
+            assert_eq!(rt; made, stop == CALLS, "at {stop}");
+            for tear in &TEARS {
+                let found = after_crash(alloc, &journal, *tear)?;
+                assert!(rt;
+                    has(&found, &NEW) || !made && has(&found, &OLD),
+                    "at {stop}, {tear:?}"
+                );
+            }
         }
     }
     Ok(())
 }
 
-// A checkpoint that fails at any of its calls, and then a stop at any call of the spare disk in the
+// A checkpoint that fails at any of its calls, and then a stop at any call of either disk in the
 // opening behind it: the old payloads or the new ones, and once it is open, the old ones alone.
 #[test]
 fn a_stop_at_each_call_of_the_opening_behind_it(rt: HostRuntime) -> Result<(), Fail> {
     let alloc = rt.alloc();
-    let payloads = vectors(alloc, &NEW)?;
-    for fail in FIRST_CALL..LAST_CALL + 1 {
-        for more in 1..6u64 {
-            let mut journal = journal_of_old(alloc, &[fail], Some(fail + more))?;
-            assert_eq!(rt; replace(&mut journal, alloc, &payloads), Err(AppendError::DiskFault));
-            assert_eq!(rt; put(&mut journal, alloc, b"c"), Err(AppendError::Closed));
-            let made = journal.reopen(alloc).is_ok();
-            for tear in &TEARS {
-                let found = after_crash(alloc, &journal, *tear)?;
-                assert!(rt; has(&found, &OLD) || !made && has(&found, &NEW), "{fail}, {more}, {tear:?}");
+    for on_older in [false, true] {
+        for fail in 0..CALLS {
+            for more in 0..6u64 {
+                let spare = Trouble {
+                    fail,
+                    stop: fail.saturating_add(more + 1),
+                    ..sound(on_older)
+                };
+                let other = Trouble {
+                    fail,
+                    other: more,
+                    ..sound(on_older)
+                };
+                assert!(rt; opens_behind(alloc, spare)?, "{on_older}, {fail}, {more}");
+                assert!(rt; opens_behind(alloc, other)?, "{on_older}, {fail}, {more}");
             }
-            assert!(rt; !made || put(&mut journal, alloc, b"c").is_ok());
         }
     }
     Ok(())
 }
 
-// Of two disks with one generation the first counts, and an old journal beside an empty disk is
+// Whether a journal stands as it should behind a refused checkpoint and the opening behind that.
+fn opens_behind(alloc: Global, trouble: Trouble) -> Result<bool, Fail> {
+    let payloads = vectors(alloc, &NEW)?;
+    let mut journal = journal_of_old(alloc, trouble)?;
+    if replace(&mut journal, alloc, &payloads) != Err(AppendError::DiskFault) {
+        return Ok(false);
+    }
+    if put(&mut journal, alloc, b"c") != Err(AppendError::Closed) {
+        return Ok(false);
+    }
+    let made = journal.reopen(alloc).is_ok();
+    for tear in &TEARS {
+        let found = after_crash(alloc, &journal, *tear)?;
+        if !has(&found, &OLD) && (made || !has(&found, &NEW)) {
+            return Ok(false);
+        }
+    }
+    Ok(has(&journal, &OLD) && made != journal.is_closed())
+}
+
+// A shut gate; frames of the payloads `a` and `b`; generation 1 with the payload `b` behind it, the
+// greatest generation, and a bad frame behind generation 1.
+const NONE: &[u8] = b"\0";
+
+const A: &[u8] = b"\x01\0\0\0\0\0\0\0\x01a\0";
+
+const B: &[u8] = b"\x01\0\0\0\0\0\0\0\x01b\0";
+
+const ONE: &[u8] =
+    b"\x01\0\0\0\0\0\0\0\x19\x02\0\0\0\0\0\0\0\0\0\0\0\0\0\0\0\0\0\0\0\0\0\0\0\x01\x01\0\0\0\0\0\0\0\x01b\0";
+
+const ALONE: &[u8] =
+    b"\x01\0\0\0\0\0\0\0\x19\x02\0\0\0\0\0\0\0\0\0\0\0\0\0\0\0\0\0\0\0\0\0\0\0\x01\0";
+
+const LAST: &[u8] =
+    b"\x01\0\0\0\0\0\0\0\x19\x02\0\0\0\0\0\0\0\0\0\0\0\0\0\0\0\0\xff\xff\xff\xff\xff\xff\xff\xff\0";
+
+const BAD: &[u8] =
+    b"\x01\0\0\0\0\0\0\0\x19\x02\0\0\0\0\0\0\0\0\0\0\0\0\0\0\0\0\0\0\0\0\0\0\0\x01\x01\0";
+
+// The greater generation counts, and the first disk on a tie. An old journal before an empty disk is
 // gone on with.
 #[test]
-fn the_first_disk_counts_on_a_tie(rt: HostRuntime) -> Result<(), Fail> {
+fn the_greater_generation_counts(rt: HostRuntime) -> Result<(), Fail> {
     let alloc = rt.alloc();
-    let one = b"\x01\0\0\0\0\0\0\0\x01a\0".as_slice();
-    let two = b"\x01\0\0\0\0\0\0\0\x01b\0".as_slice();
-    for (other, want) in [(two, b"a".as_slice()), (b"".as_slice(), b"a".as_slice())] {
-        let first = memory(alloc, one, &[], None)?;
-        let second = memory(alloc, other, &[], None)?;
+    let a: &[&[u8]] = &[b"a"];
+    let b: &[&[u8]] = &[b"b"];
+    let none: &[&[u8]] = &[];
+    for (first, second, want, may) in [
+        (A, B, a, true),
+        (A, b"".as_slice(), a, true),
+        (NONE, A, none, true),
+        (A, ONE, b, true),
+        (ONE, A, b, true),
+        (ALONE, ONE, none, true),
+        (ONE, ALONE, b, true),
+        (ONE, LAST, none, false),
+    ] {
+        let first = memory(alloc, first)?;
+        let second = memory(alloc, second)?;
         let journal = open(alloc, first, second).ok().ok_or("it opens")?;
-        assert!(rt; has(&journal, &[want]));
+        assert!(rt; has(&journal, want));
+        assert_eq!(rt; journal.may_checkpoint(), may);
+    }
+    Ok(())
+}
+
+// The number of a bad frame counts the generation's, and both disks come back as they were.
+#[test]
+fn a_bad_frame_gives_both_disks_back(rt: HostRuntime) -> Result<(), Fail> {
+    let alloc = rt.alloc();
+    for (first, second) in [(A, BAD), (BAD, A)] {
+        match PairedJournal::open_two(alloc, memory(alloc, first)?, memory(alloc, second)?) {
+            Ok(_) => assert!(rt; false),
+            Err((error, one, two)) => {
+                assert_eq!(rt; error, OpenError::BadFrame(1));
+                assert_eq!(rt; one.bytes(), first);
+                assert_eq!(rt; two.bytes(), second);
+            }
+        }
     }
     Ok(())
 }

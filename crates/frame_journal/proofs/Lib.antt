@@ -8,6 +8,7 @@ pub mod Gates
 pub mod Leaving
 pub mod Olders
 pub mod Openings
+pub mod PairOpening
 pub mod PairRunning
 pub mod PairStepping
 pub mod Pairing

@@ -18,6 +18,13 @@ pub record PairState (D : Type 0) : Type 0 where
   -- what a crash may find in place of the acknowledged payloads, since a call was refused with a device fault
   pub pending : Option (List (List ℕ))
 
+-- the disk that it goes on with, and the other one, its spare disk
+abbrev pub disk_of : {D : Type 0} → PairState D → D
+disk_of journal = cond journal.on_second journal.second journal.first
+
+abbrev pub spare_of : {D : Type 0} → PairState D → D
+spare_of journal = cond journal.on_second journal.first journal.second
+
 -- Of the frames of two disks, those gone on with: the ones of the greater generation, the first disk's on a tie.
 abbrev pub chosen : List (List ℕ) → List (List ℕ) → List (List ℕ)
 chosen first second = cond (nat_lt (generation_of first) (generation_of second)) second first

@@ -1,8 +1,9 @@
 -- What the two device calls of a step do to a disk's contents.
 use Rattle.std.specs.Prelude.{◌≡◌, ℕ, ◌+◌, List, [], ◌∷◌, ◌++◌, length, take, Result, Ok, Err}
 use Rattle.disk_model.specs.Content.{Content, LeavesOnly, written_over, settled, changed, write_change, cut_change}
+use Rattle.disk_model.specs.Disk.{OnTold, Syncs}
 use Rattle.disk_model.specs.Moments.{GoesOn}
-use Rattle.frame_journal.specs.Layout.{OpensWith, IsStaged}
+use Rattle.frame_journal.specs.Layout.{OpensWith, IsBadFrame, IsStaged}
 use Rattle.frame_journal.specs.Resting.{IsResting}
 use Rattle.frame_journal.specs.declared.commit.CommitFault.{CommitFault}
 use Rattle.frame_journal.specs.declared.commit.CommitFault.TheVariants.{AtBlock, AtGate}
@@ -11,6 +12,11 @@ use Rattle.frame_journal.specs.declared.commit.CommitFault.TheVariants.{AtBlock,
 pub record TellsOn (old new : List Content) : Type 0 where
   pub goes_on : GoesOn old new
   pub silent : old ≡ [] → new ≡ []
+
+-- the frame of this number is bad, and the disk holds the same bytes, all of them made sure of
+pub record StaysBad (n : ℕ) (old new : List Content) : Type 0 where
+  pub bad : OnTold old (λ now. IsBadFrame n now.bytes)
+  pub stays : Syncs old new
 
 -- a write, and a sync behind it
 abbrev pub WritesSynced : ℕ → List ℕ → List Content → List Content → Type 0

@@ -1,13 +1,14 @@
 //! A journal.
 ghost use Rattle.std.specs.Prelude.{◌≡◌, ◌≢◌, ◌↔◌, ℕ, ◌+◌, ◌^◌, ◌<◌, ◌≤◌, [], ◌∷◌, ◌++◌, List, Bool, true, false, IsTrue, Option, Some, None, IfOk, IfErr, OnOk, OnErr, IsErrOf};
 ghost use Rattle.fault_count.specs.Rose.{Rose};
-ghost use Rattle.disk_model.specs.Disk.{OnTold, calls_after};
+ghost use Rattle.disk_model.specs.Disk.{OnTold, Syncs, calls_after};
 ghost use Rattle.disk_model.specs.Moments.{LeavesAfter};
 ghost use Rattle.frame_journal.specs.Layout.{OpensWith, IsBadFrame};
 ghost use Rattle.frame_journal.specs.Reading.{payloads_of};
 ghost use Rattle.frame_journal.specs.Resting.{IsResting, Rests};
 ghost use Rattle.frame_journal.specs.JournalState.{LeavesJournal};
 ghost use Rattle.frame_journal.specs.Calls.{IsStep, append_call, reopen_call};
+ghost use Rattle.frame_journal.specs.Steps.{TellsOn};
 
 use crate::commit::{commit, entry_of};
 use crate::error::{AppendError, OpenError};
@@ -64,6 +65,9 @@ impl<D: Disk> Journal<D> {
         // A bad frame is there, and then no payloads are.
         ensures bad { IfErr result (λ e. (n : ℕ) → e.0 ≡ OpenError.BadFrame n → OnTold (D.history disk) (λ now. IsBadFrame n now.bytes)) }
 
+        // For a bad frame or want of memory the disk is handed back as it was, with a sync behind it.
+        ensures stays_err { IfErr result (λ e. e.0 ≢ OpenError.DiskFault → Syncs (D.history disk) (D.history e.1)) }
+
         // From its first sync on, a crash leaves only what opens with the payloads that were there.
         ensures moments { IfOk result (λ journal. (payloads : List (List ℕ)) → OnTold (D.history disk) (λ now. OpensWith payloads now.bytes)
             → LeavesAfter (D.history disk) (D.history journal.disk) (OpensWith payloads)) }
@@ -75,9 +79,9 @@ impl<D: Disk> Journal<D> {
         ensures counts { IfOk result (λ journal. D.faults journal.disk ≡ D.faults disk) }
         ensures counts_err { IfErr result (λ e. D.faults disk ≤ D.faults e.1) }
 
-        // A disk that tells nothing goes on so.
-        ensures silent { IfOk result (λ journal. D.history disk ≡ [] → D.history journal.disk ≡ []) }
-        ensures silent_err { IfErr result (λ e. D.history disk ≡ [] → D.history e.1 ≡ []) }
+        // The disk goes on, and one that tells nothing goes on so.
+        ensures tells { IfOk result (λ journal. TellsOn (D.history disk) (D.history journal.disk)) }
+        ensures tells_err { IfErr result (λ e. TellsOn (D.history disk) (D.history e.1)) }
     {
         let mut disk = disk;
         match settle(alloc, &mut disk) {

@@ -1,14 +1,15 @@
 //! A journal on two disks.
-ghost use Rattle.std.specs.Prelude.{◌≡◌, ◌≢◌, ◌⊎◌, ◌↔◌, ℕ, ◌+◌, ◌-◌, ◌^◌, ◌<◌, ◌≤◌, [], ◌∷◌, ◌++◌, List, Bool, true, false, IsTrue, Option, Some, None, IfOk, IfErr, OnOk, OnErr, IsErrOf};
+ghost use Rattle.std.specs.Prelude.{◌≡◌, ◌≢◌, ◌⊎◌, ◌↔◌, ℕ, ◌+◌, ◌-◌, ◌^◌, ◌<◌, ◌≤◌, [], ◌∷◌, ◌++◌, List, Bool, true, false, not, nat_lt, IsTrue, Option, Some, None, IfOk, IfErr, OnOk, OnErr, IsErrOf};
 ghost use Rattle.fault_count.specs.Rose.{Rose};
-ghost use Rattle.disk_model.specs.Disk.{OnTold, calls_after};
-ghost use Rattle.disk_model.specs.Moments.{LeavesBothAfter};
+ghost use Rattle.disk_model.specs.Disk.{OnTold, Syncs, calls_after};
+ghost use Rattle.disk_model.specs.Moments.{LeavesAfter, LeavesBothAfter};
 ghost use Rattle.frame_journal.specs.Layout.{OpensWith, IsBadFrame};
 ghost use Rattle.frame_journal.specs.Reading.{payloads_of};
 ghost use Rattle.frame_journal.specs.Resting.{Rests};
 ghost use Rattle.frame_journal.specs.Generation.{is_generation, generation_of, without_generation};
+ghost use Rattle.frame_journal.specs.Steps.{TellsOn, StaysBad};
 ghost use Rattle.frame_journal.specs.Calls.{append_call, reopen_call};
-ghost use Rattle.frame_journal.specs.PairState.{OpensPairWith, LeavesPair, faults_of, chosen, LosesTo};
+ghost use Rattle.frame_journal.specs.PairState.{disk_of, spare_of, OpensPairWith, LeavesPair, faults_of, chosen, LosesTo};
 ghost use Rattle.frame_journal.specs.PairCalls.{IsPairStep, PairCall, checkpoint_call};
 
 use crate::checkpoint::write_checkpoint;
@@ -64,9 +65,15 @@ impl<D: Disk> PairedJournal<D> {
         ensures durable { IfOk result (λ journal. OnTold (D.history journal.first) (λ now. OnTold (D.history journal.second) (λ now'.
             LeavesPair journal now now'))) }
 
-        // A bad frame is there, on the first disk or, where that has none, on the second.
+        // The disk gone on with, and its generation.
+        ensures goes_on { IfOk result (λ journal. (payloads payloads' : List (List ℕ))
+            → OnTold (D.history first) (λ now. OnTold (D.history second) (λ now'. OpensWith payloads now.bytes → OpensWith payloads' now'.bytes
+            → (journal.on_second ≡ nat_lt (generation_of payloads) (generation_of payloads')) × (journal.generation ≡ generation_of (chosen payloads payloads'))))) }
+
+        // A bad frame is there, on the first disk or, where that has none, on the second. That disk stays as it is.
         ensures bad { IfErr result (λ e. (n : ℕ) → e.0 ≡ OpenError.BadFrame n
-            → OnTold (D.history first) (λ now. IsBadFrame n now.bytes) ⊎ OnTold (D.history second) (λ now. IsBadFrame n now.bytes)) }
+            → StaysBad n (D.history first) (D.history e.1)
+            ⊎ (OnTold (D.history first) (λ now. (payloads : List (List ℕ)) × OpensWith payloads now.bytes) × StaysBad n (D.history second) (D.history e.2))) }
 
         // From the first sync of each disk on, a crash leaves only what opens with the payloads that were there.
         ensures moments { IfOk result (λ journal. (payloads payloads' : List (List ℕ))
@@ -77,6 +84,13 @@ impl<D: Disk> PairedJournal<D> {
             → OnTold (D.history first) (λ now. OpensWith payloads now.bytes) → OnTold (D.history second) (λ now. OpensWith payloads' now.bytes)
             → LeavesBothAfter (D.history first) (D.history e.1) (D.history second) (D.history e.2)
                 (OpensPairWith (without_generation (chosen payloads payloads')))) }
+
+        // Of the disks that are handed back each keeps its payloads, whatever the other one holds.
+        ensures first_err { IfErr result (λ e. (payloads : List (List ℕ)) → OnTold (D.history first) (λ now. OpensWith payloads now.bytes)
+            → LeavesAfter (D.history first) (D.history e.1) (OpensWith payloads)) }
+        ensures second_err { IfErr result (λ e. (payloads : List (List ℕ)) → OnTold (D.history second) (λ now. OpensWith payloads now.bytes)
+            → LeavesAfter (D.history second) (D.history e.2) (OpensWith payloads)) }
+        ensures tells_err { IfErr result (λ e. TellsOn (D.history first) (D.history e.1) × TellsOn (D.history second) (D.history e.2)) }
 
         // A fault has its cause.
         ensures fault { IfErr result (λ e. e.0 ≡ OpenError.DiskFault → Rose (D.faults first + D.faults second) (D.faults e.1 + D.faults e.2)) }
@@ -102,6 +116,8 @@ impl<D: Disk> PairedJournal<D> {
         ensures first { result.first ≡ first.disk }
         ensures second { result.second ≡ second.disk }
         ensures payloads { result.payloads ≡ without_generation (chosen first.payloads second.payloads) }
+        ensures on_second { result.on_second ≡ nat_lt (generation_of first.payloads) (generation_of second.payloads) }
+        ensures generation { result.generation ≡ generation_of (chosen first.payloads second.payloads) }
         ensures open { (result.closed ≡ false) × (result.pending ≡ None) }
         ensures durable { OnTold (D.history result.first) (λ now. OnTold (D.history result.second) (λ now'. LeavesPair result now now')) }
     {
@@ -130,6 +146,11 @@ impl<D: Disk> PairedJournal<D> {
         ensures err { OnErr result (self.new.payloads ≡ self.old.payloads) }
         ensures open { OnOk result ((self.new.closed ≡ false) × (self.new.pending ≡ None)) }
         ensures generation { self.new.generation ≡ self.old.generation }
+
+        // It goes on with the same disk, and leaves the other one.
+        ensures same_disk { self.new.on_second ≡ self.old.on_second }
+        ensures spare { spare_of self.new ≡ spare_of self.old }
+        ensures calls { OnOk result (D.calls (disk_of self.new) ≡ calls_after (D.calls (disk_of self.old)) 4) }
 
         // What a crash may leave at each moment of the call, and then.
         ensures step { IsPairStep D.history self.old (PairCall.Called (append_call (head.now ++ body.now) result)) self.new }
@@ -160,6 +181,11 @@ impl<D: Disk> PairedJournal<D> {
         ensures open { OnOk result ((self.new.closed ≡ false) × (self.new.pending ≡ None)) }
         ensures raised { OnOk result (self.new.generation ≡ self.old.generation + 1) }
         ensures same { OnErr result (self.new.generation ≡ self.old.generation) }
+
+        // It goes on with the spare disk. The disk that it leaves is the spare one then, as it is, and so it is at a refusal.
+        ensures turns { OnOk result ((self.new.on_second ≡ not self.old.on_second) × (spare_of self.new ≡ disk_of self.old)) }
+        ensures stays { OnErr result ((self.new.on_second ≡ self.old.on_second) × (disk_of self.new ≡ disk_of self.old)) }
+        ensures calls { OnOk result (D.calls (disk_of self.new) ≡ calls_after (D.calls (spare_of self.old)) 7) }
 
         // What a crash may leave at each moment of the call, and then.
         ensures step { IsPairStep D.history self.old (checkpoint_call (payloads_of payloads.now) result) self.new }
@@ -210,10 +236,15 @@ impl<D: Disk> PairedJournal<D> {
         ensures err { OnErr result (self.new.payloads ≡ self.old.payloads) }
         ensures err_pending { OnErr result (self.new.pending ≡ self.old.pending) }
         ensures err_closed { IfErr result (λ e. e ≢ OpenError.DiskFault → self.new.closed ≡ self.old.closed) }
+        ensures same_disk { self.new.on_second ≡ self.old.on_second }
+        ensures generation { OnTold (D.history self.old.first) (λ _. OnTold (D.history self.old.second) (λ _. self.new.generation ≡ self.old.generation)) }
+        ensures err_generation { OnErr result (self.new.generation ≡ self.old.generation) }
 
         // What a crash may leave at each moment of the call, and then.
         ensures step { IsPairStep D.history self.old (PairCall.Called (reopen_call result)) self.new }
 
+        // A bad frame comes only from a disk that doesn't tell what it holds.
+        ensures bad { IfErr result (λ e. (n : ℕ) → e ≡ OpenError.BadFrame n → D.history (disk_of self.old) ≡ []) }
         ensures fault { IsErrOf result OpenError.DiskFault → Rose (faults_of D.faults self.old) (faults_of D.faults self.new) }
         ensures fault_closes { IsErrOf result OpenError.DiskFault → self.new.closed ≡ true }
         ensures counts { faults_of D.faults self.old ≤ faults_of D.faults self.new }
