@@ -328,16 +328,22 @@ fn the_greater_generation_counts(rt: HostRuntime) -> Result<(), Fail> {
 fn a_bad_frame_gives_both_disks_back(rt: HostRuntime) -> Result<(), Fail> {
     let alloc = rt.alloc();
     for (first, second) in [(A, BAD), (BAD, A)] {
-        match PairedJournal::open_two(alloc, memory(alloc, first)?, memory(alloc, second)?) {
-            Ok(_) => assert!(rt; false),
-            Err((error, one, two)) => {
-                assert_eq!(rt; error, OpenError::BadFrame(1));
-                assert_eq!(rt; one.bytes(), first);
-                assert_eq!(rt; two.bytes(), second);
-            }
-        }
+        let refusal = refused(alloc, first, second)?;
+        assert_eq!(rt; refusal.0, OpenError::BadFrame(1));
+        assert_eq!(rt; refusal.1.bytes(), first);
+        assert_eq!(rt; refusal.2.bytes(), second);
     }
     Ok(())
+}
+
+// What two disks that don't open give back.
+fn refused(
+    alloc: Global,
+    first: &[u8],
+    second: &[u8],
+) -> Result<(OpenError, MemDisk, MemDisk), Fail> {
+    let opened = PairedJournal::open_two(alloc, memory(alloc, first)?, memory(alloc, second)?);
+    Ok(opened.err().ok_or("it is refused")?)
 }
 
 #[test]

@@ -18,7 +18,7 @@ pub enum OpenError {
     Memory,
 }
 
-/// Why a frame isn't appended.
+/// Why a frame isn't appended, or a checkpoint isn't made.
 #[derive(Clone, Copy, Debug, PartialEq, Eq)]
 pub enum AppendError {
     /// The disk failed, and its count of faults rose. The journal is closed.

@@ -5,18 +5,20 @@ ghost use Rattle.disk_model.specs.Moments.{GoesOn, LeftSince};
 ghost use Rattle.frame_journal.specs.Layout.{OpensWith, IsBadFrame};
 ghost use Rattle.frame_journal.specs.JournalState.{JournalState, MayOpenWith, LeavesJournal};
 ghost use Rattle.frame_journal.specs.Calls.{Call, Run, AreSteps, last, kept_of, kept_behind, in_course, calls_of, LeftIn, Tells};
-
-ghost use Rattle.frame_journal.specs.PairState.{PairState, MayOpenPairWith};
+ghost use Rattle.frame_journal.specs.PairState.{PairState, OpensPairWith, MayOpenPairWith};
 ghost use Rattle.frame_journal.specs.PairCalls.{PairCall, PairRun, ArePairSteps, last_pair, kept_of_pair, kept_behind_pair, pair_in_course, pair_calls_of};
 
 use disk_model::Disk;
 
-/// A file opens with one list of payloads, or has one bad frame, and not both.
+/// A file opens with one list of payloads, or has one bad frame, and not both. Two files open as one
+/// journal with one list of payloads.
 pub fn one_opening()
     ensures payloads { (payloads other : List (List ℕ)) (file : List ℕ)
         → OpensWith payloads file → OpensWith other file → payloads ≡ other }
     ensures number { (n m : ℕ) (file : List ℕ) → IsBadFrame n file → IsBadFrame m file → n ≡ m }
     ensures not_both { (payloads : List (List ℕ)) (n : ℕ) (file : List ℕ) → OpensWith payloads file → IsBadFrame n file → ⊥ }
+    ensures pair { (payloads other : List (List ℕ)) (first second : List ℕ)
+        → OpensPairWith payloads first second → OpensPairWith other first second → payloads ≡ other }
 {}
 
 /// Every list of calls on a journal whose disk tells what it holds, crashes at any moment among them.

@@ -14,6 +14,9 @@
 //! ```
 //!
 //! The test `an_appended_frame_is_found` of `disk_tests` makes these calls.
+//!
+//! A `PairedJournal` stands on two disks. Its checkpoint puts other payloads in place of all that are
+//! acknowledged, and a crash at any moment leaves the ones or the others.
 #![tactic(auto)]
 
 mod checkpoint;
