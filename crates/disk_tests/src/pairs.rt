@@ -167,13 +167,12 @@ fn after_crash(
     Ok(open(alloc, first, second).ok().ok_or("it opens")?)
 }
 
-// A journal at rest.
-fn sound(on_older: bool) -> Trouble {
+fn stopping(on_older: bool, fail: u64, stop: u64, other: u64) -> Trouble {
     Trouble {
         on_older,
-        fail: NEVER,
-        stop: NEVER,
-        other: NEVER,
+        fail,
+        stop,
+        other,
     }
 }
 
@@ -182,7 +181,7 @@ fn sound(on_older: bool) -> Trouble {
 #[test]
 fn checkpoints_of_many_sizes_are_found(rt: HostRuntime) -> Result<(), Fail> {
     let alloc = rt.alloc();
-    let mut journal = journal_of_old(alloc, sound(false))?;
+    let mut journal = journal_of_old(alloc, stopping(false, NEVER, NEVER, NEVER))?;
     for size in [0usize, 1, 100] {
         let mut payloads = Vec::new(alloc);
         for _ in 0..size {
@@ -206,28 +205,36 @@ fn checkpoints_of_many_sizes_are_found(rt: HostRuntime) -> Result<(), Fail> {
 #[test]
 fn a_stop_at_each_call_of_a_checkpoint(rt: HostRuntime) -> Result<(), Fail> {
     let alloc = rt.alloc();
-    let payloads = vectors(alloc, &NEW)?;
     for on_older in [false, true] {
         for stop in 0..CALLS + 1 {
-            let mut journal = journal_of_old(
-                alloc,
-                Trouble {
-                    stop,
-                    ..sound(on_older)
-                },
-            )?;
-            let made = replace(&mut journal, alloc, &payloads).is_ok();
-            assert_eq!(rt; made, stop == CALLS, "at {stop}");
-            for tear in &TEARS {
-                let found = after_crash(alloc, &journal, *tear)?;
-                assert!(rt;
-                    has(&found, &NEW) || !made && has(&found, &OLD),
-                    "at {stop}, {tear:?}"
-                );
-            }
+            assert!(rt; leaves_one(alloc, on_older, stop)?, "{on_older}, {stop}");
         }
     }
     Ok(())
+}
+
+// Whether a checkpoint whose spare disk stops leaves as it should.
+fn leaves_one(alloc: Global, on_older: bool, stop: u64) -> Result<bool, Fail> {
+    let payloads = vectors(alloc, &NEW)?;
+    let mut journal = journal_of_old(alloc, stopping(on_older, NEVER, stop, NEVER))?;
+    let made = replace(&mut journal, alloc, &payloads).is_ok();
+    Ok(made == (stop == CALLS) && leaves(alloc, &journal, !made, true)?)
+}
+
+// Whether each crash leaves the old payloads or the new ones, where these may be.
+fn leaves(
+    alloc: Global,
+    journal: &PairedJournal<MemDisk>,
+    old: bool,
+    new: bool,
+) -> Result<bool, Fail> {
+    for tear in &TEARS {
+        let found = after_crash(alloc, journal, *tear)?;
+        if !(old && has(&found, &OLD) || new && has(&found, &NEW)) {
+            return Ok(false);
+        }
+    }
+    Ok(true)
 }
 
 // A checkpoint that fails at any of its calls, and then a stop at any call of either disk in the
@@ -238,42 +245,42 @@ fn a_stop_at_each_call_of_the_opening_behind_it(rt: HostRuntime) -> Result<(), F
     for on_older in [false, true] {
         for fail in 0..CALLS {
             for more in 0..6u64 {
-                let spare = Trouble {
-                    fail,
-                    stop: fail.saturating_add(more + 1),
-                    ..sound(on_older)
-                };
-                let other = Trouble {
-                    fail,
-                    other: more,
-                    ..sound(on_older)
-                };
-                assert!(rt; opens_behind(alloc, spare)?, "{on_older}, {fail}, {more}");
-                assert!(rt; opens_behind(alloc, other)?, "{on_older}, {fail}, {more}");
+                assert!(rt;
+                    opens_behind(alloc, on_older, fail, more)?,
+                    "{on_older}, {fail}, {more}"
+                );
             }
         }
     }
     Ok(())
 }
 
-// Whether a journal stands as it should behind a refused checkpoint and the opening behind that.
-fn opens_behind(alloc: Global, trouble: Trouble) -> Result<bool, Fail> {
-    let payloads = vectors(alloc, &NEW)?;
+// Whether the opening behind a refused checkpoint leaves as it should, where the one disk stops in it,
+// and where the other one does.
+fn opens_behind(alloc: Global, on_older: bool, fail: u64, more: u64) -> Result<bool, Fail> {
+    let stop = fail.saturating_add(more).saturating_add(1);
+    let spare = stopping(on_older, fail, stop, NEVER);
+    let other = stopping(on_older, fail, NEVER, more);
+    Ok(opens_again(alloc, spare)? && opens_again(alloc, other)?)
+}
+
+fn opens_again(alloc: Global, trouble: Trouble) -> Result<bool, Fail> {
     let mut journal = journal_of_old(alloc, trouble)?;
-    if replace(&mut journal, alloc, &payloads) != Err(AppendError::DiskFault) {
-        return Ok(false);
-    }
-    if put(&mut journal, alloc, b"c") != Err(AppendError::Closed) {
+    if !is_refused(alloc, &mut journal)? {
         return Ok(false);
     }
     let made = journal.reopen(alloc).is_ok();
-    for tear in &TEARS {
-        let found = after_crash(alloc, &journal, *tear)?;
-        if !has(&found, &OLD) && (made || !has(&found, &NEW)) {
-            return Ok(false);
-        }
-    }
-    Ok(has(&journal, &OLD) && made != journal.is_closed())
+    let stands = has(&journal, &OLD) && made != journal.is_closed();
+    Ok(stands && leaves(alloc, &journal, true, !made)?)
+}
+
+// Whether a checkpoint is refused, and an append behind it.
+fn is_refused(alloc: Global, journal: &mut PairedJournal<MemDisk>) -> Result<bool, Fail> {
+    let payloads = vectors(alloc, &NEW)?;
+    Ok(
+        replace(journal, alloc, &payloads) == Err(AppendError::DiskFault)
+            && put(journal, alloc, b"c") == Err(AppendError::Closed),
+    )
 }
 
 // A shut gate; frames of the payloads `a` and `b`; generation 1 with the payload `b` behind it, the

@@ -1,20 +1,19 @@
 -- A checkpoint of a journal on two disks, from what became of the spare one.
-use Rattle.std.proofs.Common.{◌≡◌, ◌⊎◌, inl, inr, ℕ, suc, ◌+◌, ◌-◌, ◌^◌, ◌<◌, ◌≤◌, Bool, true, false, cond, not, Result, Ok, Err, Option, Some, None, Vec, List, [], ◌∷◌, ◌++◌, length, drop, refl, sym, ap, subst, ◌∙◌, arith}
+use Rattle.std.proofs.Common.{◌≡◌, ◌⊎◌, inl, inr, ℕ, ◌+◌, ◌-◌, ◌^◌, ◌<◌, Bool, true, false, cond, not, Result, Err, Option, Some, None, Vec, List, [], ◌∷◌, ◌++◌, length, drop, refl, sym, ap, subst, ◌∙◌, arith}
 use Rattle.std.specs.declared.alloc.Global.{Global}
-use Rattle.disk_model.specs.Content.{Content, LeavesOnly, settled}
+use Rattle.disk_model.specs.Content.{Content, LeavesOnly}
 use Rattle.disk_model.specs.Disk.{OnTold}
-use Rattle.disk_model.specs.Moments.{GoesOn, LeftSince, LeavesAfter, LeavesSince, LeavesBothSince, LeavesBothAfter}
+use Rattle.disk_model.specs.Moments.{LeftSince, LeavesAfter, LeavesSince, LeavesBothSince, LeavesBothAfter}
 use Rattle.disk_model.proofs.Moments.{newest_left, goes_nowhere}
-use Rattle.frame_journal.specs.Layout.{frame, frames, block, ArePayloads, OpensWith, IsAtRest}
-use Rattle.frame_journal.specs.Reading.{payloads_of, BeginsShut}
-use Rattle.frame_journal.specs.Resting.{IsResting, Rests}
+use Rattle.frame_journal.specs.Layout.{frames, ArePayloads, OpensWith, IsAtRest}
+use Rattle.frame_journal.specs.Reading.{payloads_of}
+use Rattle.frame_journal.specs.Resting.{Rests}
 use Rattle.frame_journal.specs.Generation.{generation_of, without_generation, generation_payload, checkpoint_of}
 use Rattle.frame_journal.specs.JournalState.{JournalState, MayOpenWith, LeavesJournal}
-use Rattle.frame_journal.specs.Calls.{Kept}
-use Rattle.frame_journal.specs.Older.{StandsBehind, OpensLesser, IsOlder, behind_first}
+use Rattle.frame_journal.specs.Older.{OpensLesser, IsOlder, behind_first}
 use Rattle.frame_journal.specs.PairState.{OpensPairWith, MayOpenPairWith, LosesTo, chosen}
 use Rattle.frame_journal.specs.PairCalls.{Checkpointed, CheckpointFailed, kept_of_pair, kept_after_pair, IsPairStep}
-use Rattle.frame_journal.specs.SpareState.{StandsSpare, MayOpenSpare, IsRaised, KeepsGeneration, StandsAlone, SpareStand, IsPairSound, is_refused, refused_frames, refused_at_step, pending_with, pair_of}
+use Rattle.frame_journal.specs.SpareState.{StandsSpare, IsRaised, KeepsGeneration, StandsAlone, SpareStand, IsPairSound, is_refused, refused_frames, refused_at_step, pending_with, pair_of}
 use Rattle.frame_journal.specs.SpareSteps.{CheckpointLeaves}
 use Rattle.frame_journal.specs.Steps.{TellsOn}
 use Rattle.frame_journal.specs.declared.checkpoint.CheckpointFault.{CheckpointFault}
@@ -27,7 +26,7 @@ use Rattle.frame_journal.proofs.Committing.{rest_opens}
 use Rattle.frame_journal.proofs.Appending.{resting_leaves}
 use Rattle.frame_journal.proofs.Stepping.{same_kept}
 use Rattle.frame_journal.proofs.Tellings.{checkpoint_generation, checkpoint_without}
-use Rattle.frame_journal.proofs.Pairing.{pair_moments, opens_pair, pair_leaves, move_stand, carry, told_pair}
+use Rattle.frame_journal.proofs.Pairing.{pair_moments, opens_pair, pair_leaves, move_stand, told_pair}
 
 -- a disk at rest with frames of a lesser generation is an older one
 pub rests_older : (loses : ℕ → Type 0) (ps : List (List ℕ)) (now : Content) → loses (generation_of ps) → Rests ps now → LeavesOnly now (IsOlder loses)
@@ -51,7 +50,7 @@ fault_spare AtOpening v loses history leaves = leaves
 module _ {D : Type 0} (history : D → List Content) (journal : JournalState D) (spare spare' : D) (b : Bool) (s : Spare) (sound : IsPairSound history journal spare b s) (tells : TellsOn (history spare) (history spare')) (none : journal.pending ≡ None)
     (fs : List (List ℕ)) (raised : generation_of fs ≡ generation_of journal.payloads + 1) (fit : ArePayloads fs) (some : 0 < length fs)
     (moments : LosesTo b (generation_of journal.payloads) 0 → OnTold (history spare) (λ now. StandsSpare s (LosesTo b (generation_of journal.payloads)) now)
-        → LeavesSince (history spare) (history spare') (λ image. OpensLesser (LosesTo b (generation_of journal.payloads)) image ⊎ OpensWith fs image)) where
+    → LeavesSince (history spare) (history spare') (λ image. OpensLesser (LosesTo b (generation_of journal.payloads)) image ⊎ OpensWith fs image)) where
   abbrev Both : Type 0
   Both = (i j : List ℕ) → LeftSince (history journal.disk) (history journal.disk) i → LeftSince (history spare) (history spare') j
       → MayOpenPairWith (without_generation journal.payloads) (Some (without_generation fs)) (cond b j i) (cond b i j)
@@ -74,9 +73,9 @@ module _ {D : Type 0} (history : D → List Content) (journal : JournalState D) 
 module _ {D : Type 0} (history : D → List Content) (journal : JournalState D) (spare spare' : D) (b : Bool) (s : Spare) (sound : IsPairSound history journal spare b s) (idle : refused_frames s ≡ None) (tells : TellsOn (history spare) (history spare')) (none : journal.pending ≡ None)
     (qs : List (List ℕ)) (fault : CheckpointFault) (v : Vec (Vec ℕ Global) Global) (is : payloads_of v.items ≡ checkpoint_of (generation_of journal.payloads + 1) qs) (small : generation_of journal.payloads + 1 < 2 ^ 64) (fit : ArePayloads (payloads_of v.items))
     (leaves : LosesTo b (generation_of journal.payloads) 0 → OnTold (history spare) (λ now. StandsSpare s (LosesTo b (generation_of journal.payloads)) now)
-        → OnTold (history spare') (λ now. CheckpointLeaves (Err fault) (LosesTo b (generation_of journal.payloads)) (payloads_of v.items) now))
+    → OnTold (history spare') (λ now. CheckpointLeaves (Err fault) (LosesTo b (generation_of journal.payloads)) (payloads_of v.items) now))
     (moments : LosesTo b (generation_of journal.payloads) 0 → OnTold (history spare) (λ now. StandsSpare s (LosesTo b (generation_of journal.payloads)) now)
-        → LeavesSince (history spare) (history spare') (λ image. OpensLesser (LosesTo b (generation_of journal.payloads)) image ⊎ OpensWith (payloads_of v.items) image)) where
+    → LeavesSince (history spare) (history spare') (λ image. OpensLesser (LosesTo b (generation_of journal.payloads)) image ⊎ OpensWith (payloads_of v.items) image)) where
   raised : generation_of (payloads_of v.items) ≡ generation_of journal.payloads + 1
   raised = ap generation_of is ∙ checkpoint_generation (generation_of journal.payloads + 1) qs small
 
@@ -120,7 +119,7 @@ module _ {D : Type 0} (history : D → List Content) (journal : JournalState D) 
     (qs fs : List (List ℕ)) (is : fs ≡ checkpoint_of (generation_of journal.payloads + 1) qs) (small : generation_of journal.payloads + 1 < 2 ^ 64) (fit : ArePayloads fs)
     (here : OnTold (history spare') (Rests fs))
     (moments : LosesTo b (generation_of journal.payloads) 0 → OnTold (history spare) (λ now. StandsSpare s (LosesTo b (generation_of journal.payloads)) now)
-        → LeavesSince (history spare) (history spare') (λ image. OpensLesser (LosesTo b (generation_of journal.payloads)) image ⊎ OpensWith fs image)) where
+    → LeavesSince (history spare) (history spare') (λ image. OpensLesser (LosesTo b (generation_of journal.payloads)) image ⊎ OpensWith fs image)) where
   new_raised : generation_of fs ≡ generation_of journal.payloads + 1
   new_raised = ap generation_of is ∙ checkpoint_generation (generation_of journal.payloads + 1) qs small
 
@@ -213,10 +212,10 @@ module _ {D : Type 0} (history : D → List Content) (journal : JournalState D) 
     (is : payloads_of v.items ≡ checkpoint_of (n + 1) qs) (number : n ≡ generation_of journal.payloads) (bound : generation_of journal.payloads < 2 ^ 64 - 1) (fit : ArePayloads (payloads_of v.items))
     (spelt : behind ≡ behind_first (payloads_of v.items))
     (leaves : (on_second : Bool) (generation : ℕ) (payload : List ℕ) (payloads : List (List ℕ)) → ArePayloads (payload ∷ payloads) → behind ≡ behind_first (payload ∷ payloads) → LosesTo on_second generation 0
-        → OnTold (history spare) (λ now. LeavesOnly now (IsOlder (LosesTo on_second generation))) → OnTold (history spare') (λ now. CheckpointLeaves r (LosesTo on_second generation) (payload ∷ payloads) now))
+    → OnTold (history spare) (λ now. LeavesOnly now (IsOlder (LosesTo on_second generation))) → OnTold (history spare') (λ now. CheckpointLeaves r (LosesTo on_second generation) (payload ∷ payloads) now))
     (moments : (on_second : Bool) (generation : ℕ) (payload : List ℕ) (payloads : List (List ℕ)) → ArePayloads (payload ∷ payloads) → behind ≡ behind_first (payload ∷ payloads) → LosesTo on_second generation 0
-        → OnTold (history spare) (λ now. LeavesOnly now (IsOlder (LosesTo on_second generation)))
-        → LeavesSince (history spare) (history spare') (λ image. OpensLesser (LosesTo on_second generation) image ⊎ OpensWith (payload ∷ payloads) image)) where
+    → OnTold (history spare) (λ now. LeavesOnly now (IsOlder (LosesTo on_second generation)))
+    → LeavesSince (history spare) (history spare') (λ image. OpensLesser (LosesTo on_second generation) image ⊎ OpensWith (payload ∷ payloads) image)) where
   abbrev g : ℕ
   g = generation_of journal.payloads
 

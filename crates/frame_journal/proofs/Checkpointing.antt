@@ -1,5 +1,5 @@
 -- A checkpoint on the spare disk, step by step.
-use Rattle.std.proofs.Common.{◌≡◌, ◌⊎◌, inl, inr, ℕ, ◌+◌, Result, Ok, Err, OnOk, OnErr, List, [], ◌∷◌, length, refl, sym, subst}
+use Rattle.std.proofs.Common.{◌≡◌, ◌⊎◌, inl, ℕ, ◌+◌, Result, Ok, Err, OnOk, OnErr, List, [], ◌∷◌, length, refl}
 use Rattle.disk_model.specs.Content.{Content, LeavesOnly, settled, written_over, write_change, cut_change}
 use Rattle.disk_model.specs.Disk.{OnTold, Cuts, FailsInPart}
 use Rattle.disk_model.specs.declared.disk.Failed.{Failed}

@@ -1,11 +1,10 @@
 -- What a refused checkpoint left is taken from the spare disk.
-use Rattle.std.proofs.Common.{◌≡◌, ◌⊎◌, inl, inr, ℕ, ◌+◌, ◌<◌, min, Option, Some, None, List, [], ◌∷◌, length, take, refl, sym, subst, arith}
+use Rattle.std.proofs.Common.{◌≡◌, ◌⊎◌, inl, ℕ, ◌<◌, min, Option, Some, None, List, [], ◌∷◌, length, take, refl, subst, arith}
 use Rattle.disk_model.specs.Content.{Content, TornWrite, LeavesOnly, settled, written_over, write_change, cut_change}
 use Rattle.disk_model.specs.Disk.{OnTold, FailsInPart}
 use Rattle.disk_model.specs.Moments.{LeavesAfter}
 use Rattle.frame_journal.specs.Layout.{ArePayloads, OpensWith}
 use Rattle.frame_journal.specs.Reading.{payloads_of, BeginsShut}
-use Rattle.frame_journal.specs.Generation.{generation_of}
 use Rattle.frame_journal.specs.Older.{StandsBehind, OpensLesser, IsOlder, behind_first}
 use Rattle.frame_journal.specs.SpareState.{StandsSpare, MayCount, IsUncut, MayOpenSpare, IsRaised, refused_frames, after_shutting_spare, after_cutting_spare}
 use Rattle.frame_journal.specs.Steps.{WritesSynced, CutsSynced}
@@ -13,8 +12,7 @@ use Rattle.frame_journal.specs.declared.spare.Spare.{Spare}
 use Rattle.frame_journal.specs.declared.spare.Spare.TheVariants as spare
 use Rattle.frame_journal.proofs.Told.{told, told_from}
 use Rattle.frame_journal.proofs.Leaving.{IsReady, ready_when, ready_weaker, synced_leaves, same_leaves, then_fails, then_writes, then_cuts, now_failed, now_written, now_cut}
-use Rattle.frame_journal.proofs.Reopening.{newest}
-use Rattle.frame_journal.proofs.Gates.{byte_torn, byte_written}
+use Rattle.frame_journal.proofs.Gates.{byte_torn}
 use Rattle.frame_journal.proofs.Olders.{older_opens, shut_opens, first_shut, cut_torn, cut_older, checkpoint_opens}
 
 -- what stands whole behind the first gate counts or doesn't

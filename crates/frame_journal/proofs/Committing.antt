@@ -1,7 +1,7 @@
 -- What the two steps of an append leave of a file.
-use Rattle.std.proofs.Common.{◌≡◌, inl, inr, ℕ, zero, ◌+◌, ◌-◌, ◌≤◌, ◌<◌, min, List, [], ◌∷◌, ◌++◌, length, take, drop, get_or, replicate, ap, sym, subst, ◌∙◌, append_assoc, arith}
+use Rattle.std.proofs.Common.{◌≡◌, inl, inr, ℕ, ◌+◌, ◌<◌, min, List, [], ◌∷◌, ◌++◌, length, take, drop, ap, sym, ◌∙◌, append_assoc, arith}
 use Rattle.std.proofs.lemmas.Bool.{cases_eq}
-use Rattle.std.proofs.lemmas.List.{length-append, take_all, drop_all, append-nil, take-append-drop, take_at, drop_at, drop_more}
+use Rattle.std.proofs.lemmas.List.{length-append, take_all, drop_all, append-nil, take-append-drop}
 use Rattle.disk_model.specs.Content.{TornWrite, written_over}
 use Rattle.frame_journal.specs.Layout.{block, frame, frames, IsPayload, OpensWith, OpensWithOneMore, IsAtRest, IsStaged}
 use Rattle.frame_journal.proofs.Spelling.{length-frame}

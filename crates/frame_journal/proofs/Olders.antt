@@ -1,11 +1,10 @@
 -- What a spare disk's file opens with, and what writes and cuts leave of it.
-use Rattle.std.proofs.Common.{◌≡◌, ◌≢◌, ◌⊎◌, inl, inr, ℕ, zero, suc, ◌+◌, ◌-◌, ◌≤◌, ◌<◌, min, List, [], ◌∷◌, ◌++◌, length, take, drop, get_or, refl, ap, sym, subst, ◌∙◌, append_assoc, arith}
+use Rattle.std.proofs.Common.{◌≡◌, ◌≢◌, ◌⊎◌, inl, inr, ℕ, ◌+◌, ◌≤◌, min, List, [], ◌∷◌, ◌++◌, length, take, drop, get_or, refl, ap, sym, subst, ◌∙◌, arith}
 use Rattle.std.proofs.lemmas.Bool.{cases_eq}
-use Rattle.std.proofs.lemmas.List.{length-append, length-take, append-nil, drop_all, drop_more}
+use Rattle.std.proofs.lemmas.List.{length-take, append-nil, drop_all, drop_more}
 use Rattle.disk_model.specs.Content.{TornWrite, TornCut, written_over}
-use Rattle.frame_journal.specs.Layout.{block, frame, frames, ArePayloads, OpensWith, IsAtRest}
+use Rattle.frame_journal.specs.Layout.{frames, ArePayloads, OpensWith, IsAtRest}
 use Rattle.frame_journal.specs.Reading.{BeginsShut}
-use Rattle.frame_journal.specs.Generation.{generation_of}
 use Rattle.frame_journal.specs.Older.{StandsBehind, OpensLesser, IsOlder, behind_first}
 use Rattle.frame_journal.proofs.Gates.{no_gap, byte_written}
 
@@ -31,10 +30,14 @@ older_torn loses from file image (inl short) torn = inl (omega (arith, torn.no_l
 older_torn loses from file image (inr older) torn =
     let size : 1 ≤ length file = omega (arith, ap length older.1.split) in
     let rest : drop 1 file ≡ older.0 = ap (drop 1) older.1.split in
-    inr (older.0, record {
-      gate = get_or image 0 0;
-      split = drop_more image 0 0 (omega (arith, torn.no_shorter, size)) ∙ ap (λ l. get_or image 0 0 ∷ l) (torn.behind ∙ rest);
-    }, older.2)
+    inr (
+      older.0,
+      record {
+        gate = get_or image 0 0;
+        split = drop_more image 0 0 (omega (arith, torn.no_shorter, size)) ∙ ap (λ l. get_or image 0 0 ∷ l) (torn.behind ∙ rest);
+      },
+      older.2,
+    )
 
 -- its first gate, shut
 pub first_shut : (file : List ℕ) → BeginsShut (written_over file 0 (0 ∷ []))

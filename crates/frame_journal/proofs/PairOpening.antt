@@ -17,9 +17,10 @@ goes_on_with [] k ps qs on_second generation on number first second ps' qs' = tt
 goes_on_with (now ∷ past) [] ps qs on_second generation on number first second ps' qs' = tt
 goes_on_with (now ∷ past) (now' ∷ past') ps qs on_second generation on number first second ps' qs' = λ opens opens'.
     let one = one_opening ps ps' now.bytes first opens in
-    let two = one_opening qs qs' now'.bytes second opens' in
-    (on ∙ ap (λ l. nat_lt (generation_of l) (generation_of qs)) one ∙ ap (λ l. nat_lt (generation_of ps') (generation_of l)) two,
-    number ∙ ap (λ l. generation_of (chosen l qs)) one ∙ ap (λ l. generation_of (chosen ps' l)) two)
+    let two = one_opening qs qs' now'.bytes second opens' in (
+      on ∙ ap (λ l. nat_lt (generation_of l) (generation_of qs)) one ∙ ap (λ l. nat_lt (generation_of ps') (generation_of l)) two,
+      number ∙ ap (λ l. generation_of (chosen l qs)) one ∙ ap (λ l. generation_of (chosen ps' l)) two,
+    )
 
 -- two files open with one list of payloads
 pub one_pair : (ps qs : List (List ℕ)) (first second : List ℕ) → OpensPairWith ps first second → OpensPairWith qs first second → ps ≡ qs

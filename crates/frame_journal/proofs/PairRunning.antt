@@ -13,9 +13,10 @@ module _ {D : Type 0} (history : D → List Content) where
   pub pair_goes_on : (old : PairState D) (run : PairRun D) → ArePairSteps history old run → GoesOn (history old.first) (history (last_pair old run).first) × GoesOn (history old.second) (history (last_pair old run).second)
   pair_goes_on old [] steps = (goes_nowhere (history old.first) (history old.first) refl, goes_nowhere (history old.second) (history old.second) refl)
   pair_goes_on old (step ∷ run) steps =
-      let rest = pair_goes_on step.1 run steps.1 in
-      (go_on (history old.first) (history step.1.first) (history (last_pair step.1 run).first) steps.0.moments.goes_on rest.0,
-      go_on (history old.second) (history step.1.second) (history (last_pair step.1 run).second) steps.0.moments.goes_on' rest.1)
+      let rest = pair_goes_on step.1 run steps.1 in (
+        go_on (history old.first) (history step.1.first) (history (last_pair step.1 run).first) steps.0.moments.goes_on rest.0,
+        go_on (history old.second) (history step.1.second) (history (last_pair step.1 run).second) steps.0.moments.goes_on' rest.1,
+      )
 
   pair_step_kept : (old new : PairState D) (call : PairCall) → Tells (history old.first) → Tells (history old.second) → IsPairStep history old call new → kept_of_pair new ≡ kept_after_pair (kept_of_pair old) call
   pair_step_kept old new call tells tells' step =

@@ -1,13 +1,13 @@
 -- A call of a journal on two disks, from that of the journal on the disk gone on with and what became of the spare one.
-use Rattle.std.proofs.Common.{◌≡◌, ◌⊎◌, inl, inr, ℕ, ◌+◌, ◌<◌, ◌≤◌, Bool, true, false, cond, is_some, ◌||◌, Result, Ok, Err, Option, Some, None, List, [], ◌∷◌, ◌++◌, length, refl, sym, ap, subst, ◌∙◌, arith}
-use Rattle.disk_model.specs.Content.{Content, LeavesOnly}
+use Rattle.std.proofs.Common.{◌≡◌, ℕ, ◌+◌, Bool, false, cond, Result, Ok, Err, Option, Some, None, List, [], refl, sym, ap, subst, ◌∙◌}
+use Rattle.disk_model.specs.Content.{Content}
 use Rattle.disk_model.specs.Disk.{OnTold}
-use Rattle.disk_model.specs.Moments.{GoesOn, LeftSince, LeavesAfter, LeavesSince, LeavesBothSince}
+use Rattle.disk_model.specs.Moments.{LeftSince, LeavesAfter, LeavesBothSince}
 use Rattle.frame_journal.specs.Generation.{is_generation, generation_of, without_generation}
 use Rattle.frame_journal.specs.JournalState.{JournalState, MayOpenWith, LeavesJournal}
 use Rattle.frame_journal.specs.Calls.{Call, Appended, AppendFailed, Reopened, ReopenFailed, Refused, Kept, kept_of, kept_after, in_course, append_call, IsStep}
-use Rattle.frame_journal.specs.PairState.{PairState, MayOpenPairWith, LosesTo}
-use Rattle.frame_journal.specs.PairCalls.{PairCall, Called, Checkpointed, CheckpointFailed, kept_of_pair, kept_after_pair, pair_in_course, IsPairStep}
+use Rattle.frame_journal.specs.PairState.{MayOpenPairWith, LosesTo}
+use Rattle.frame_journal.specs.PairCalls.{Called, kept_of_pair, IsPairStep}
 use Rattle.frame_journal.specs.SpareState.{StandsSpare, MayCount, IsUncut, MayOpenSpare, IsRaised, KeepsGeneration, StandsAlone, SpareStand, IsPairSound, is_refused, refused_frames, pending_without, pending_with, pair_of}
 use Rattle.frame_journal.specs.Steps.{TellsOn}
 use Rattle.frame_journal.specs.declared.spare.Spare.{Spare}
@@ -157,7 +157,7 @@ module _ {D : Type 0} (history : D → List Content) (journal new : JournalState
     (silent : history journal.disk ≡ [] → history new.disk ≡ []) (tells : TellsOn (history spare) (history spare')) (same : refused_frames s' ≡ refused_frames s) (pending : new.pending ≡ journal.pending)
     (stands : LosesTo b (generation_of journal.payloads) 0 → OnTold (history spare) (λ now. StandsSpare s (LosesTo b (generation_of journal.payloads)) now) → OnTold (history spare') (λ now. StandsSpare s' (LosesTo b (generation_of journal.payloads)) now))
     (later : LosesTo b (generation_of journal.payloads) 0 → IsRaised (refused_frames s) (generation_of journal.payloads + 1) → OnTold (history spare) (λ now. StandsSpare s (LosesTo b (generation_of journal.payloads)) now)
-        → LeavesAfter (history spare) (history spare') (MayOpenSpare (refused_frames s) (LosesTo b (generation_of journal.payloads)))) where
+    → LeavesAfter (history spare) (history spare') (MayOpenSpare (refused_frames s) (LosesTo b (generation_of journal.payloads)))) where
   pub reopen_failed_sound : IsPairSound history new spare' b s'
   reopen_failed_sound = called_sound history journal new spare spare' b s s' ReopenFailed sound step silent tells tt
       (subst (λ (o : Option (List (List ℕ))). StandsAlone o new.pending) (sym same) (subst (λ (o : Option (List (List ℕ))). StandsAlone (refused_frames s) o) (sym pending) sound.alone))
@@ -181,7 +181,7 @@ module _ {D : Type 0} (history : D → List Content) (journal new : JournalState
     (silent : history journal.disk ≡ [] → history new.disk ≡ []) (tells : TellsOn (history spare) (history spare')) (uncounted : MayCount s' → ⊥) (cut : IsUncut s' → ⊥) (pending : new.pending ≡ None)
     (stands : LosesTo b (generation_of journal.payloads) 0 → OnTold (history spare) (λ now. StandsSpare s (LosesTo b (generation_of journal.payloads)) now) → OnTold (history spare') (λ now. StandsSpare s' (LosesTo b (generation_of journal.payloads)) now))
     (later : LosesTo b (generation_of journal.payloads) 0 → IsRaised (refused_frames s) (generation_of journal.payloads + 1) → OnTold (history spare) (λ now. StandsSpare s (LosesTo b (generation_of journal.payloads)) now)
-        → LeavesAfter (history spare) (history spare') (MayOpenSpare (refused_frames s) (LosesTo b (generation_of journal.payloads)))) where
+    → LeavesAfter (history spare) (history spare') (MayOpenSpare (refused_frames s) (LosesTo b (generation_of journal.payloads)))) where
   older : (loses : ℕ → Type 0) (t : Spare) → (MayCount t → ⊥) → (IsUncut t → ⊥) → OnTold (history spare') (λ now. StandsSpare t loses now) → OnTold (history spare') (λ now. StandsSpare standing.Idle loses now)
   older loses standing.Idle no_count no_cut here = here
   older loses (standing.Untouched fs) no_count no_cut here = here
@@ -209,7 +209,7 @@ pub pair_refused : {D : Type 0} (history : D → List Content) (journal : Journa
     → IsPairStep history (pair_of journal spare b s) (Called Refused) (pair_of journal spare b s)
 pair_refused history journal spare b s sound =
     let step = reopen_failed_step history journal journal spare spare b s s sound (failed_step history journal sound.leaves) (λ none. none) (tells_same (history spare) (history spare) refl) refl refl (λ least stands. stands)
-        (λ least raised stands. same_leaves (history spare) (history spare) (MayOpenSpare (refused_frames s) (LosesTo b (generation_of journal.payloads))) refl) in
+    (λ least raised stands. same_leaves (history spare) (history spare) (MayOpenSpare (refused_frames s) (LosesTo b (generation_of journal.payloads))) refl) in
     record { kept = step.kept; moments = step.moments; durable = step.durable }
 
 -- the same, of a spare disk that stands without a refused checkpoint

@@ -1,19 +1,16 @@
 -- Two disks: what a crash may leave of both, from what it may leave of each.
-use Rattle.std.proofs.Common.{◌≡◌, ◌⊎◌, inl, inr, ℕ, ◌+◌, ◌<◌, Bool, true, false, cond, Option, Some, None, List, [], ◌∷◌, ◌++◌, length, refl, sym, ap, subst, ◌∙◌, arith}
+use Rattle.std.proofs.Common.{◌≡◌, inl, inr, ℕ, ◌+◌, Bool, true, false, cond, Option, Some, None, List, [], ◌∷◌, length, refl, sym, ap, subst, arith}
 use Rattle.std.proofs.lemmas.List.{length-append}
-use Rattle.disk_model.specs.Content.{Content, MayLeave, LeavesOnly}
+use Rattle.disk_model.specs.Content.{Content, LeavesOnly}
 use Rattle.disk_model.specs.Disk.{OnTold}
-use Rattle.disk_model.specs.Moments.{GoesOn, LeftSince, LeavesAfter, LeavesSince, LeavesBothSince}
-use Rattle.disk_model.proofs.Moments.{newest_left}
-use Rattle.frame_journal.specs.Layout.{OpensWith, ArePayloads}
+use Rattle.disk_model.specs.Moments.{GoesOn, LeftSince, LeavesBothSince}
 use Rattle.frame_journal.specs.Generation.{generation_of, without_generation}
 use Rattle.frame_journal.specs.Older.{OpensLesser}
 use Rattle.frame_journal.specs.JournalState.{JournalState, MayOpenWith, LeavesJournal}
-use Rattle.frame_journal.specs.PairState.{PairState, OpensPairWith, MayOpenPairWith, LeavesPair, LosesTo}
-use Rattle.frame_journal.specs.SpareState.{StandsSpare, MayOpenSpare, IsRaised, KeepsGeneration, StandsAlone, SpareStand, IsPairSound, refused_frames, pending_without, pending_with, pair_of}
+use Rattle.frame_journal.specs.PairState.{MayOpenPairWith, LeavesPair, LosesTo}
+use Rattle.frame_journal.specs.SpareState.{StandsSpare, MayOpenSpare, IsRaised, KeepsGeneration, StandsAlone, SpareStand, IsPairSound, refused_frames, pending_with, pair_of}
 use Rattle.frame_journal.specs.declared.spare.Spare.{Spare}
-use Rattle.frame_journal.proofs.Told.{told, told_from, told_from_two}
-use Rattle.frame_journal.proofs.Leaving.{since_from}
+use Rattle.frame_journal.proofs.Told.{told, told_from}
 use Rattle.frame_journal.proofs.Tellings.{opens_by, opens_greater}
 use Rattle.frame_journal.proofs.Clearing.{spare_leaves}
 

@@ -1,9 +1,9 @@
 -- A disk has what it had before, and maybe more; one that tells nothing goes on so.
-use Rattle.std.proofs.Common.{◌≡◌, ◌⊎◌, inl, inr, ℕ, List, [], ◌∷◌, ◌++◌, Result, Ok, Err, OnOk, OnErr, refl, sym, ◌∙◌}
+use Rattle.std.proofs.Common.{◌≡◌, inl, inr, ℕ, List, [], ◌∷◌, ◌++◌, Result, Ok, Err, OnOk, OnErr, ◌∙◌}
 use Rattle.disk_model.specs.Content.{Content, Change}
 use Rattle.disk_model.specs.Disk.{Writes, Syncs, Cuts, FailsInPart}
 use Rattle.disk_model.proofs.Moments.{goes_nowhere, go_on}
-use Rattle.frame_journal.specs.Steps.{TellsOn, WritesSynced, CutsSynced}
+use Rattle.frame_journal.specs.Steps.{TellsOn}
 
 from_now : (later : List Content) (now : Content) (past new : List Content) → new ≡ later ++ now ∷ past → TellsOn (now ∷ past) new
 from_now later now past new is = record { goes_on = record { later = later; is = is }; silent = λ none. absurd cc }

@@ -1,11 +1,10 @@
 -- Which of two disks goes on.
-use Rattle.std.proofs.Common.{lt-ltb, le-ltb, ◌≡◌, ◌≢◌, inl, inr, ℕ, ◌+◌, ◌^◌, ◌<◌, ◌≤◌, Bool, true, false, cond, nat_lt, bytes_eq, List, [], ◌∷◌, ◌++◌, length, take, drop, replicate, refl, sym, ap, subst, ◌∙◌, arith}
-use Rattle.std.specs.Int.{w64, to_be_bytes, from_be_bytes}
+use Rattle.std.proofs.Common.{lt-ltb, le-ltb, ◌≡◌, ℕ, ◌^◌, ◌<◌, ◌≤◌, Bool, true, false, cond, nat_lt, List, [], ◌∷◌, ◌++◌, refl, sym, ap, ◌∙◌, arith}
 use Rattle.std.proofs.lemmas.Nat.{from_be_bytes-to_be_bytes_8}
 use Rattle.frame_journal.specs.Layout.{OpensWith}
 use Rattle.frame_journal.specs.Generation.{is_generation, number_in, generation_payload, generation_of, without_generation, checkpoint_of}
 use Rattle.frame_journal.specs.Older.{OpensLesser}
-use Rattle.frame_journal.specs.PairState.{OpensPairWith, chosen, LosesTo}
+use Rattle.frame_journal.specs.PairState.{OpensPairWith, LosesTo}
 
 -- the payload of a generation is one
 pub is_its_generation : (n : ℕ) → is_generation (generation_payload n) ≡ true

@@ -1,5 +1,5 @@
 -- The generation of a journal that may stand on two disks. A checkpoint begins with a frame that tells it.
-use Rattle.std.specs.Prelude.{ℕ, ◌+◌, Bool, ◌&&◌, cond, nat_eq, bytes_eq, List, [], ◌∷◌, ◌++◌, length, take, drop, replicate}
+use Rattle.std.specs.Prelude.{ℕ, Bool, ◌&&◌, cond, nat_eq, bytes_eq, List, [], ◌∷◌, ◌++◌, length, take, drop, replicate}
 use Rattle.std.specs.Int.{w64, to_be_bytes, from_be_bytes}
 
 -- what a generation's payload begins with: the byte 2, and sixteen zero bytes

@@ -1,8 +1,8 @@
 -- Calls of a journal on two disks, and what they acknowledge.
-use Rattle.std.specs.Prelude.{◌≡◌, ◌⊎◌, ℕ, List, [], ◌∷◌, ◌++◌, map, Result, Ok, Err, Option, Some, None}
+use Rattle.std.specs.Prelude.{◌≡◌, ℕ, List, [], ◌∷◌, map, Result, Ok, Err, Option, Some, None}
 use Rattle.disk_model.specs.Content.{Content}
 use Rattle.disk_model.specs.Disk.{OnTold}
-use Rattle.disk_model.specs.Moments.{GoesOn, LeftSince, LeavesBothSince}
+use Rattle.disk_model.specs.Moments.{LeavesBothSince}
 use Rattle.frame_journal.specs.Calls.{Call, Refused, Kept, kept_after, in_course}
 use Rattle.frame_journal.specs.PairState.{PairState, MayOpenPairWith, LeavesPair}
 use Rattle.frame_journal.specs.declared.error.AppendError.{AppendError}

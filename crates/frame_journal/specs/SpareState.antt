@@ -1,11 +1,10 @@
 -- How a journal on two disks stands with the disk that it doesn't go on with, its spare one.
-use Rattle.std.specs.Prelude.{◌≡◌, ◌⊎◌, ℕ, ◌+◌, ◌<◌, ◌≤◌, Bool, true, false, ◌||◌, cond, is_some, List, [], ◌∷◌, ◌++◌, length, drop, Result, Ok, Err, Option, Some, None, Vec}
+use Rattle.std.specs.Prelude.{◌≡◌, ◌⊎◌, ℕ, ◌+◌, ◌<◌, Bool, ◌||◌, cond, is_some, List, [], length, Option, Some, None, Vec}
 use Rattle.std.specs.declared.alloc.Global.{Global}
 use Rattle.disk_model.specs.Content.{Content, LeavesOnly}
 use Rattle.disk_model.specs.Disk.{OnTold}
 use Rattle.frame_journal.specs.Layout.{ArePayloads, OpensWith}
 use Rattle.frame_journal.specs.Reading.{payloads_of, BeginsShut}
-use Rattle.frame_journal.specs.Resting.{IsResting}
 use Rattle.frame_journal.specs.Generation.{generation_of, without_generation}
 use Rattle.frame_journal.specs.JournalState.{JournalState, LeavesJournal}
 use Rattle.frame_journal.specs.Older.{StandsBehind, OpensLesser, IsOlder, behind_first}

@@ -1,7 +1,5 @@
 //! A checkpoint goes to the spare disk.
-ghost use Rattle.std.specs.Prelude.{◌≡◌, ◌⊎◌, ℕ, ◌+◌, ◌-◌, ◌^◌, ◌<◌, ◌≤◌, [], List, length, drop, OnOk, OnErr};
-ghost use Rattle.std.specs.Prelude.{Bool, ◌∷◌};
-ghost use Rattle.frame_journal.specs.PairState.{LosesTo};
+ghost use Rattle.std.specs.Prelude.{◌≡◌, ◌⊎◌, ℕ, ◌+◌, ◌-◌, ◌^◌, ◌<◌, ◌≤◌, [], ◌∷◌, List, Bool, length, OnOk, OnErr};
 ghost use Rattle.fault_count.specs.Rose.{Rose};
 ghost use Rattle.frame_journal.specs.Steps.{TellsOn};
 ghost use Rattle.disk_model.specs.Disk.{OnTold, calls_after};
@@ -9,6 +7,7 @@ ghost use Rattle.disk_model.specs.Content.{LeavesOnly, settled};
 ghost use Rattle.disk_model.specs.Moments.{LeavesAfter, LeavesSince};
 ghost use Rattle.frame_journal.specs.Layout.{frames, ArePayloads, OpensWith};
 ghost use Rattle.frame_journal.specs.Reading.{BeginsShut};
+ghost use Rattle.frame_journal.specs.PairState.{LosesTo};
 ghost use Rattle.frame_journal.specs.Older.{StandsBehind, OpensLesser, IsOlder, behind_first};
 ghost use Rattle.frame_journal.specs.Resting.{Rests};
 ghost use Rattle.frame_journal.specs.SpareSteps.{CheckpointLeaves};

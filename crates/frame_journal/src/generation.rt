@@ -1,5 +1,5 @@
 //! The generation of a journal, and the frames of a checkpoint.
-ghost use Rattle.std.specs.Prelude.{◌≡◌, ℕ, ◌+◌, ◌^◌, ◌<◌, ◌++◌, [], ◌∷◌, List, length, drop, IfOk, IsTrue};
+ghost use Rattle.std.specs.Prelude.{◌≡◌, ◌+◌, ◌<◌, ◌++◌, [], ◌∷◌, length, drop, IfOk, IsTrue};
 ghost use Rattle.frame_journal.specs.Layout.{frame, frames, IsPayload, ArePayloads};
 ghost use Rattle.frame_journal.specs.Reading.{payloads_of};
 ghost use Rattle.frame_journal.specs.Generation.{is_generation, number_in, generation_payload, generation_of, checkpoint_of};

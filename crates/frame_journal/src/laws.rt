@@ -52,5 +52,5 @@ pub fn every_pair_run<D: Disk>()
         → LeftSince (D.history (last_pair old before).first) (D.history new.first) image
         → LeftSince (D.history (last_pair old before).second) (D.history new.second) image'
         → MayOpenPairWith (kept_behind_pair (kept_of_pair old) (pair_calls_of before)).payloads
-            (pair_in_course (kept_behind_pair (kept_of_pair old) (pair_calls_of before)) call) image image' }
+        (pair_in_course (kept_behind_pair (kept_of_pair old) (pair_calls_of before)) call) image image' }
 {}

@@ -1,15 +1,15 @@
 //! A journal on two disks.
-ghost use Rattle.std.specs.Prelude.{◌≡◌, ◌≢◌, ◌⊎◌, ◌↔◌, ℕ, ◌+◌, ◌-◌, ◌^◌, ◌<◌, ◌≤◌, [], ◌∷◌, ◌++◌, List, Bool, true, false, not, nat_lt, IsTrue, Option, Some, None, IfOk, IfErr, OnOk, OnErr, IsErrOf};
+ghost use Rattle.std.specs.Prelude.{◌≡◌, ◌≢◌, ◌⊎◌, ◌↔◌, ℕ, ◌+◌, ◌-◌, ◌^◌, ◌<◌, ◌≤◌, [], ◌∷◌, ◌++◌, List, true, false, not, nat_lt, IsTrue, Some, None, IfOk, IfErr, OnOk, OnErr, IsErrOf};
 ghost use Rattle.fault_count.specs.Rose.{Rose};
-ghost use Rattle.disk_model.specs.Disk.{OnTold, Syncs, calls_after};
+ghost use Rattle.disk_model.specs.Disk.{OnTold, calls_after};
 ghost use Rattle.disk_model.specs.Moments.{LeavesAfter, LeavesBothAfter};
-ghost use Rattle.frame_journal.specs.Layout.{OpensWith, IsBadFrame};
+ghost use Rattle.frame_journal.specs.Layout.{OpensWith};
 ghost use Rattle.frame_journal.specs.Reading.{payloads_of};
 ghost use Rattle.frame_journal.specs.Resting.{Rests};
 ghost use Rattle.frame_journal.specs.Generation.{is_generation, generation_of, without_generation};
 ghost use Rattle.frame_journal.specs.Steps.{TellsOn, StaysBad};
 ghost use Rattle.frame_journal.specs.Calls.{append_call, reopen_call};
-ghost use Rattle.frame_journal.specs.PairState.{disk_of, spare_of, OpensPairWith, LeavesPair, faults_of, chosen, LosesTo};
+ghost use Rattle.frame_journal.specs.PairState.{disk_of, spare_of, OpensPairWith, LeavesPair, faults_of, chosen};
 ghost use Rattle.frame_journal.specs.PairCalls.{IsPairStep, PairCall, checkpoint_call};
 
 use crate::checkpoint::write_checkpoint;
@@ -79,11 +79,11 @@ impl<D: Disk> PairedJournal<D> {
         ensures moments { IfOk result (λ journal. (payloads payloads' : List (List ℕ))
             → OnTold (D.history first) (λ now. OpensWith payloads now.bytes) → OnTold (D.history second) (λ now. OpensWith payloads' now.bytes)
             → LeavesBothAfter (D.history first) (D.history journal.first) (D.history second) (D.history journal.second)
-                (OpensPairWith (without_generation (chosen payloads payloads')))) }
+            (OpensPairWith (without_generation (chosen payloads payloads')))) }
         ensures moments_err { IfErr result (λ e. (payloads payloads' : List (List ℕ))
             → OnTold (D.history first) (λ now. OpensWith payloads now.bytes) → OnTold (D.history second) (λ now. OpensWith payloads' now.bytes)
             → LeavesBothAfter (D.history first) (D.history e.1) (D.history second) (D.history e.2)
-                (OpensPairWith (without_generation (chosen payloads payloads')))) }
+            (OpensPairWith (without_generation (chosen payloads payloads')))) }
 
         // Of the disks that are handed back each keeps its payloads, whatever the other one holds.
         ensures first_err { IfErr result (λ e. (payloads : List (List ℕ)) → OnTold (D.history first) (λ now. OpensWith payloads now.bytes)
@@ -319,7 +319,11 @@ impl<D: Disk> PairedJournal<D> {
         } = self;
         drop(standing);
         let disk = journal.into_disk();
-        if on_second { (spare, disk) } else { (disk, spare) }
+        if on_second {
+            (spare, disk)
+        } else {
+            (disk, spare)
+        }
     }
 }
 

@@ -1,12 +1,10 @@
 //! How a journal on two disks stands with its spare disk.
-ghost use Rattle.std.specs.Prelude.{◌≡◌, ◌↔◌, ℕ, ◌≤◌, List, IsTrue, OnOk, OnErr};
-ghost use Rattle.std.specs.Prelude.{Bool};
-ghost use Rattle.frame_journal.specs.PairState.{LosesTo};
+ghost use Rattle.std.specs.Prelude.{◌≡◌, ◌↔◌, ℕ, ◌+◌, ◌≤◌, [], Bool, true, IsTrue, OnOk, OnErr};
 ghost use Rattle.fault_count.specs.Rose.{Rose};
 ghost use Rattle.frame_journal.specs.Steps.{TellsOn};
 ghost use Rattle.disk_model.specs.Disk.{OnTold};
 ghost use Rattle.disk_model.specs.Moments.{LeavesAfter};
-ghost use Rattle.std.specs.Prelude.{true, ◌+◌, []};
+ghost use Rattle.frame_journal.specs.PairState.{LosesTo};
 ghost use Rattle.frame_journal.specs.Older.{OpensLesser};
 ghost use Rattle.frame_journal.specs.SpareState.{is_refused, StandsSpare, MayCount, IsUncut, MayOpenSpare, IsRaised, refused_frames, after_shutting_spare, after_cutting_spare};
 

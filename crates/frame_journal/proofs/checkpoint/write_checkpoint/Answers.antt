@@ -1,8 +1,8 @@
-use Rattle.std.proofs.Common.{◌≡◌, ◌∷◌, List, ℕ, [], subst, sym, ◌∙◌}
+use Rattle.std.proofs.Common.{◌≡◌, List, ℕ, [], subst, sym, ◌∙◌}
 use Rattle.disk_model.specs.Content.{settled}
 use Rattle.disk_model.specs.Disk.{OnTold}
 use Rattle.frame_journal.specs.PairState.{LosesTo}
-use Rattle.frame_journal.specs.Older.{StandsBehind, behind_first}
+use Rattle.frame_journal.specs.Older.{StandsBehind}
 use Rattle.frame_journal.proofs.Reopening.{when_ok, when_err}
 use Rattle.frame_journal.proofs.Checkpointing.{shutting_failed, shutting_failed_moments, now_shut, leaves_shut, body_failed, body_failed_moments, opening_failed, opening_failed_moments, opened_rests, opened_moments, shut_now, rests_now}
 use Rattle.frame_journal.proofs.Silent.{tells_then}

@@ -1,4 +1,3 @@
-use Rattle.std.proofs.Common.{List, ℕ}
 use Rattle.frame_journal.specs.PairState.{LosesTo}
 use Rattle.frame_journal.specs.Older.{OpensLesser}
 use Rattle.frame_journal.specs.SpareState.{MayOpenSpare, refused_frames}

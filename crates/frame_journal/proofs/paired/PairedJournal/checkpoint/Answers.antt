@@ -1,4 +1,4 @@
-use Rattle.std.proofs.Common.{◌≡◌, ◌+◌, ◌-◌, ◌^◌, ◌<◌, ℕ, false, not, is_some, ◌||◌, Option, Some, Ok, Err, [], ◌∷◌, ◌++◌, List, length, drop, refl, sym, ap, subst, ◌∙◌, arith}
+use Rattle.std.proofs.Common.{◌≡◌, ◌+◌, ◌-◌, ◌^◌, ◌<◌, ℕ, not, is_some, ◌||◌, Option, Some, List, drop, refl, sym, ap, subst, ◌∙◌, arith}
 use Rattle.frame_journal.specs.Generation.{generation_of, without_generation}
 use Rattle.frame_journal.specs.Reading.{payloads_of}
 use Rattle.frame_journal.specs.PairState.{PairState}
@@ -7,7 +7,6 @@ use Rattle.frame_journal.specs.Older.{behind_first}
 use Rattle.frame_journal.specs.SpareState.{IsPairSound, refused_frames, refused_at_step, pending_with, pair_of}
 use Rattle.frame_journal.specs.JournalState.{JournalState}
 use Rattle.frame_journal.specs.declared.spare.Spare.{Spare}
-use Rattle.frame_journal.specs.declared.spare.Spare.TheVariants as standing
 use Rattle.frame_journal.proofs.Tellings.{checkpoint_generation, checkpoint_without}
 use Rattle.frame_journal.proofs.PairStepping.{pair_refused}
 use Rattle.frame_journal.proofs.Checkpointed.{idle_is, moved, refused_is, refused_sound, refused_step, done_sound, done_step}

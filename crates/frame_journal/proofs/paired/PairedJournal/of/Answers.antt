@@ -1,4 +1,4 @@
-use Rattle.std.proofs.Common.{◌≡◌, ◌<◌, true, false, sym, ap, subst, ◌∙◌, arith}
+use Rattle.std.proofs.Common.{true, false, sym, ap, subst, ◌∙◌, arith}
 use Rattle.frame_journal.specs.Generation.{generation_of}
 use Rattle.frame_journal.specs.PairState.{LosesTo}
 use Rattle.frame_journal.specs.SpareState.{IsPairSound}
