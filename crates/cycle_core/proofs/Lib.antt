@@ -1,0 +1,5 @@
+pub mod Front
+pub mod Memories
+pub mod Rooms
+pub mod Stepping
+pub mod Taking

@@ -1,0 +1,13 @@
+pub mod Changing
+pub mod Codes
+pub mod Cycle
+pub mod CycleCodes
+pub mod Ending
+pub mod Going
+pub mod Looks
+pub mod Planning
+pub mod Requests
+pub mod Rooms
+pub mod Supplies
+pub mod Turns
+pub mod UnderWay
