@@ -10,7 +10,7 @@ ROOT = pathlib.Path(__file__).resolve().parent.parent
 # The floors of docs/ARCHITECTURE.md, the highest first.
 FLOORS = [
     ("programs", ["sync_cli"]),
-    ("tests", ["script_tests", "plan_tests", "transition_tests", "staging_tests", "cycle_tests", "request_tests", "session_tests", "text_tests", "scan_tests", "roots_tests", "link_tests", "ignore_tests", "tree_tests", "word_tests", "stream_tests", "disk_tests", "edge_tests", "agent_tests"]),
+    ("tests", ["script_tests", "plan_tests", "transition_tests", "staging_tests", "request_tests", "session_tests", "text_tests", "scan_tests", "roots_tests", "link_tests", "ignore_tests", "tree_tests", "word_tests", "stream_tests", "disk_tests", "edge_tests", "agent_tests"]),
     ("runs", ["script_engine"]),
     ("cycles", ["scan_cache", "scan_core", "scan_laws", "frame_text", "reply_laws", "request_laws", "ancestor_store", "transition_plan", "transition_laws", "cycle_law", "cycle_core", "stage_core", "session_table", "session_control", "agent_proto", "plan_laws", "reconcile"]),
     ("roots", ["mem_roots", "root_laws"]),
